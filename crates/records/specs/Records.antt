@@ -1,0 +1,130 @@
+-- Calls, records and answers: the record of 16 bytes, its kind, its fields, and what refusal 2 names.
+use Prim.Native.Nat.{ℕ, zero, suc, _+_, _*_}
+use mathlib.Core.Bool.{Bool, true, false, cond, not, _&&_, _||_}
+use mathlib.Core.List.{List, [], _∷_}
+use lib.Dec.{eqb, ltb, leb}
+use lib.ListN.{getD}
+use Rattle.bits.specs.Bit.{hasBit}
+use Rattle.records.specs.declared.Kind.{Kind}
+use Rattle.records.specs.declared.Kind.the-variants.{SelectLow, Exchange, SelectHigh, FrameHeard, BusIdle, FrameEnds, ReceiveError, Recovery, Unknown}
+use Rattle.records.specs.declared.Frame.{Frame}
+
+-- The refusals of a step, by number; 0 stands for none.
+abbrev pub accepted : ℕ
+accepted = 0
+
+abbrev pub refusedSelect : ℕ
+refusedSelect = 1
+
+abbrev pub refusedField : ℕ
+refusedField = 2
+
+abbrev pub refusedInFlight : ℕ
+refusedInFlight = 3
+
+abbrev pub refusedNoFlight : ℕ
+refusedNoFlight = 4
+
+abbrev pub refusedState : ℕ
+refusedState = 5
+
+-- Byte i of a record.
+abbrev pub byteAt : List ℕ → ℕ → ℕ
+byteAt r i = getD r i 0
+
+-- Byte 0 is the kind.
+abbrev pub kindBy : ℕ → Kind
+kindBy b =
+    cond (eqb b 0) SelectLow
+    (cond (eqb b 1) Exchange
+    (cond (eqb b 2) SelectHigh
+    (cond (eqb b 3) FrameHeard
+    (cond (eqb b 4) BusIdle
+    (cond (eqb b 5) FrameEnds
+    (cond (eqb b 6) ReceiveError
+    (cond (eqb b 7) Recovery Unknown)))))))
+
+unfoldable pub kindOf : List ℕ → Kind
+kindOf r = kindBy (byteAt r 0)
+
+-- Events are kinds 3 to 7.
+abbrev pub isEvent : Kind → Bool
+isEvent SelectLow = false
+isEvent Exchange = false
+isEvent SelectHigh = false
+isEvent FrameHeard = true
+isEvent BusIdle = true
+isEvent FrameEnds = true
+isEvent ReceiveError = true
+isEvent Recovery = true
+isEvent Unknown = false
+
+-- The n bytes from i on are 0.
+abbrev pub zeros : List ℕ → ℕ → ℕ → Bool
+zeros r i zero = true
+zeros r i (suc n) = zeros r i n && eqb (byteAt r (i + n)) 0
+
+-- ---- kind 3: a frame
+-- bytes 4 to 7 are the identifier, high byte first
+abbrev pub identifierOf : List ℕ → ℕ
+identifierOf r = byteAt r 4 * 0x1000000 + byteAt r 5 * 0x10000 + byteAt r 6 * 0x100 + byteAt r 7
+
+-- byte 1: bit 0 extended, bit 1 remote; byte 2 the length; bytes 8 to 15 the data
+unfoldable pub frameOf : List ℕ → Frame
+frameOf r =
+    record {
+      extended = hasBit (byteAt r 1) 0;
+      remote = hasBit (byteAt r 1) 1;
+      length = byteAt r 2;
+      identifier = identifierOf r;
+      bytes = byteAt r 8 ∷ byteAt r 9 ∷ byteAt r 10 ∷ byteAt r 11 ∷ byteAt r 12 ∷ byteAt r 13 ∷ byteAt r 14 ∷ byteAt r 15 ∷ [];
+    }
+
+-- the data bytes that a frame carries: none if remote
+abbrev pub carried : Bool → ℕ → ℕ
+carried remote length = cond remote 0 length
+
+-- the largest identifier, extended and standard
+abbrev pub largestIdentifier : Bool → ℕ
+largestIdentifier extended = cond extended 536870911 2047
+
+-- of the first j data bytes, those that are not among the n carried are 0
+abbrev pub zerosPast : List ℕ → ℕ → ℕ → Bool
+zerosPast r n zero = true
+zerosPast r n (suc j) = zerosPast r n j && (ltb j n || eqb (byteAt r (8 + j)) 0)
+
+abbrev pub soundFrame : List ℕ → Bool
+soundFrame r =
+    leb (byteAt r 1) 3 && leb (byteAt r 2) 8 && eqb (byteAt r 3) 0
+    && leb (identifierOf r) (largestIdentifier (hasBit (byteAt r 1) 0))
+    && zerosPast r (carried (hasBit (byteAt r 1) 1) (byteAt r 2)) 8
+
+-- ---- the other kinds have one field at most: byte 1, up to this
+abbrev pub largestField : Kind → ℕ
+largestField SelectLow = 0
+largestField Exchange = 255
+largestField SelectHigh = 0
+largestField FrameHeard = 3
+largestField BusIdle = 0
+largestField FrameEnds = 2
+largestField ReceiveError = 1
+largestField Recovery = 0
+largestField Unknown = 0
+
+abbrev pub soundPlain : Kind → List ℕ → Bool
+soundPlain k r = leb (byteAt r 1) (largestField k) && zeros r 2 14
+
+abbrev pub soundBy : Kind → List ℕ → Bool
+soundBy SelectLow r = soundPlain SelectLow r
+soundBy Exchange r = soundPlain Exchange r
+soundBy SelectHigh r = soundPlain SelectHigh r
+soundBy FrameHeard r = soundFrame r
+soundBy BusIdle r = soundPlain BusIdle r
+soundBy FrameEnds r = soundPlain FrameEnds r
+soundBy ReceiveError r = soundPlain ReceiveError r
+soundBy Recovery r = soundPlain Recovery r
+soundBy Unknown r = false
+
+-- Not named by refusal 2: a known kind, fields in their ranges, every other byte 0.
+unfoldable pub soundOf : List ℕ → Bool
+soundOf r = soundBy (kindOf r) r

@@ -1,0 +1,5 @@
+pub mod State
+pub mod Registers
+pub mod Errors
+pub mod Modes
+pub mod Store

@@ -1,0 +1,193 @@
+-- Registers: where each address lies, its writable bits, what it holds and what it reads.
+use Prim.Native.Nat.{ℕ, _+_, _*_, _/_, _%_, min}
+use mathlib.Core.Bool.{Bool, true, false, cond, not, _&&_, _||_}
+use mathlib.Core.List.{List, [], _∷_}
+use lib.Dec.{eqb, ltb, leb}
+use lib.Bits.{bitAnd, bitOr}
+use lib.ListN.{getD, replicate}
+use Rattle.bits.specs.Bit.{hasBit}
+use Rattle.registers.specs.declared.Region.{Region}
+use Rattle.registers.specs.declared.Region.the-variants.{Profile, Configured, Bfpctrl, Tec, Rec, Caninte, Canintf, Eflg, Canstat, Canctrl, TxCtrl, TxMessage, RxCtrl, RxMessage}
+use Rattle.registers.specs.declared.Mode.{Mode}
+use Rattle.registers.specs.declared.Mode.the-variants.{Configuration}
+use Rattle.registers.specs.declared.TxBuffer.{TxBuffer}
+use Rattle.registers.specs.declared.TxBuffer.the-variants.{Txb0, Txb1, Txb2}
+use Rattle.registers.specs.declared.RxBuffer.{RxBuffer}
+use Rattle.registers.specs.declared.RxBuffer.the-variants.{Rxb0, Rxb1}
+use Rattle.registers.specs.declared.Flight.the-variants.{Idle}
+use Rattle.registers.specs.declared.Request.the-variants.{Nothing}
+use Rattle.registers.specs.declared.Flags.{Flags}
+use Rattle.registers.specs.declared.RxControl.{RxControl}
+use Rattle.registers.specs.declared.Control.{Control}
+use Rattle.registers.specs.declared.Core.{Core}
+use Rattle.registers.specs.State.{RX0IF, RX1IF, TX0IF, TX1IF, TX2IF, ERRIF, WAKIF, modeNumber, isConfiguration, txControl}
+use Rattle.registers.specs.Errors.{errorFlags, noErrors}
+
+-- ---- the address map; addresses count modulo 128
+-- transmit buffers at 30h, 40h, 50h; receive buffers at 60h, 70h
+abbrev pub txAt : ℕ → TxBuffer
+txAt a = cond (ltb a 0x40) Txb0 (cond (ltb a 0x50) Txb1 Txb2)
+
+abbrev pub rxAt : ℕ → RxBuffer
+rxAt a = cond (ltb a 0x70) Rxb0 Rxb1
+
+-- rows 0 and 1: filters 0-2 and 3-5, then BFPCTRL and TXRTSCTRL, or TEC and REC
+abbrev pub filterRows : ℕ → Region
+filterRows a =
+    cond (ltb (a % 16) 12) Profile
+    (cond (eqb a 0x0C) Bfpctrl
+    (cond (eqb a 0x0D) Configured
+    (cond (eqb a 0x1C) Tec Rec)))
+
+-- row 2: masks, CNF3-1, CANINTE, CANINTF, EFLG
+abbrev pub maskRow : ℕ → Region
+maskRow a =
+    cond (ltb a 0x28) Profile
+    (cond (ltb a 0x2B) Configured
+    (cond (eqb a 0x2B) Caninte
+    (cond (eqb a 0x2C) Canintf Eflg)))
+
+-- rows 3 to 5 and 6 to 7: a control byte, then SIDH, SIDL, EID8, EID0, DLC and eight data bytes
+abbrev pub bufferRows : ℕ → Region
+bufferRows a =
+    cond (ltb a 0x60)
+    (cond (eqb (a % 16) 0) (TxCtrl (txAt a)) (TxMessage (txAt a)))
+    (cond (eqb (a % 16) 0) (RxCtrl (rxAt a)) RxMessage)
+
+-- CANSTAT and CANCTRL stand at every xEh and xFh
+unfoldable pub regionOf : ℕ → Region
+regionOf a =
+    cond (eqb (a % 16) 14) Canstat
+    (cond (eqb (a % 16) 15) Canctrl
+    (cond (ltb a 0x20) (filterRows a)
+    (cond (ltb a 0x30) (maskRow a) (bufferRows a))))
+
+-- ---- the writable bits
+-- SIDL is byte 1 of a filter or mask
+abbrev pub profileBits : ℕ → ℕ
+profileBits a = cond (eqb (a % 4) 1) (cond (ltb a 0x20) 0xEB 0xE3) 0xFF
+
+-- CNF3 and TXRTSCTRL
+abbrev pub configuredBits : ℕ → ℕ
+configuredBits a = cond (eqb a 0x28) 0xC7 (cond (eqb a 0x0D) 0x07 0xFF)
+
+-- SIDL and DLC of a transmit buffer
+abbrev pub messageBits : ℕ → ℕ
+messageBits a = cond (eqb (a % 16) 2) 0xEB (cond (eqb (a % 16) 5) 0x4F 0xFF)
+
+-- TXBnCTRL: TXREQ and TXP
+abbrev pub transmitBits : ℕ
+transmitBits = 0x0B
+
+abbrev pub receiveBits : RxBuffer → ℕ
+receiveBits Rxb0 = 0x64
+receiveBits Rxb1 = 0x60
+
+abbrev pub writableIn : Region → ℕ → ℕ
+writableIn Profile a = profileBits a
+writableIn Configured a = configuredBits a
+writableIn Bfpctrl a = 0x3F
+writableIn Tec a = 0x00
+writableIn Rec a = 0x00
+writableIn Caninte a = 0xFF
+writableIn Canintf a = 0xFF
+writableIn Eflg a = 0xC0
+writableIn Canstat a = 0x00
+writableIn Canctrl a = 0xFF
+writableIn (TxCtrl b) a = transmitBits
+writableIn (TxMessage b) a = messageBits a
+writableIn (RxCtrl b) a = receiveBits b
+writableIn RxMessage a = 0x00
+
+unfoldable pub writableOf : ℕ → ℕ
+writableOf a = writableIn (regionOf a) a
+
+-- ---- power-on and RESET
+-- CANCTRL 87h, CANSTAT 80h (Configuration), the rest 0, no flight, no mode request
+abbrev pub firstControl : Control
+firstControl =
+    record {
+      flags = record { canctrl = 0x87; caninte = 0; canintf = 0; eflg = 0 };
+      tx = record { txb0 = 0; txb1 = 0; txb2 = 0 };
+      rx = record { rxb0 = 0; rxb1 = 0 };
+      counters = noErrors;
+      state = record { mode = Configuration; flight = Idle; request = Nothing };
+    }
+
+unfoldable pub powerOnCore : Core
+powerOnCore = record { control = firstControl; config = replicate 48 0; tx = replicate 48 0; rx = replicate 32 0 }
+
+unfoldable pub resetCore : Core → Core
+resetCore k = record { control = firstControl; config = replicate 48 0; tx = replicate 48 0; rx = replicate 32 0 }
+
+-- ---- INT and CANSTAT
+-- the sources enabled and flagged
+abbrev pub sources : Flags → ℕ
+sources f = bitAnd (f .caninte) (f .canintf)
+
+-- INT is low exactly when CANINTE and CANINTF share a bit
+unfoldable pub intIsLow : Control → Bool
+intIsLow c = not (eqb (sources (c .flags)) 0)
+
+-- bits 3-1: the lowest code enabled and flagged: 1 error, 2 wake, 3-5 TXB0-2, 6-7 RXB0-1, else 0
+unfoldable pub interruptCode : ℕ → ℕ
+interruptCode s =
+    cond (hasBit s ERRIF) 1
+    (cond (hasBit s WAKIF) 2
+    (cond (hasBit s TX0IF) 3
+    (cond (hasBit s TX1IF) 4
+    (cond (hasBit s TX2IF) 5
+    (cond (hasBit s RX0IF) 6
+    (cond (hasBit s RX1IF) 7 0))))))
+
+-- bits 7-5 the mode
+unfoldable pub canstatOf : Control → ℕ
+canstatOf c = bitOr (modeNumber (c .state .mode) * 32) (interruptCode (sources (c .flags)) * 2)
+
+-- ---- what an address holds
+abbrev pub rxControl : RxControl → RxBuffer → ℕ
+rxControl r Rxb0 = r .rxb0
+rxControl r Rxb1 = r .rxb1
+
+-- TEC of 256 or more reads 255; bits 5 to 0 of EFLG follow the counters. Bytes 00h to 2Fh and 30h to 5Fh lie at a % 48, 60h to 7Fh at a % 32.
+abbrev pub holdsIn : Region → Core → ℕ → ℕ
+holdsIn Profile k a = getD (k .config) (a % 48) 0
+holdsIn Configured k a = getD (k .config) (a % 48) 0
+holdsIn Bfpctrl k a = getD (k .config) (a % 48) 0
+holdsIn Tec k a = min (k .control .counters .tec) 255
+holdsIn Rec k a = k .control .counters .rec
+holdsIn Caninte k a = k .control .flags .caninte
+holdsIn Canintf k a = k .control .flags .canintf
+holdsIn Eflg k a = bitOr (bitAnd (k .control .flags .eflg) 0xC0) (errorFlags (k .control .counters))
+holdsIn Canstat k a = canstatOf (k .control)
+holdsIn Canctrl k a = k .control .flags .canctrl
+holdsIn (TxCtrl b) k a = txControl (k .control .tx) b
+holdsIn (TxMessage b) k a = getD (k .tx) (a % 48) 0
+holdsIn (RxCtrl b) k a = rxControl (k .control .rx) b
+holdsIn RxMessage k a = getD (k .rx) (a % 32) 0
+
+unfoldable pub holds : Core → ℕ → ℕ
+holds k a = holdsIn (regionOf (a % 128)) k (a % 128)
+
+-- ---- what an address reads: filters and masks 0 outside Configuration
+abbrev pub isProfile : Region → Bool
+isProfile Profile = true
+isProfile Configured = false
+isProfile Bfpctrl = false
+isProfile Tec = false
+isProfile Rec = false
+isProfile Caninte = false
+isProfile Canintf = false
+isProfile Eflg = false
+isProfile Canstat = false
+isProfile Canctrl = false
+isProfile (TxCtrl b) = false
+isProfile (TxMessage b) = false
+isProfile (RxCtrl b) = false
+isProfile RxMessage = false
+
+abbrev pub hidden : Core → ℕ → Bool
+hidden k a = isProfile (regionOf (a % 128)) && not (isConfiguration (k .control .state .mode))
+
+unfoldable pub reads : Core → ℕ → ℕ
+reads k a = cond (hidden k a) 0 (holds k a)

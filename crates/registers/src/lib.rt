@@ -1,0 +1,136 @@
+// The registers and the state of the CAN side: what an address holds and reads, what a store does, modes and error counters.
+mod errors;
+mod map;
+mod modes;
+mod stores;
+
+pub use errors::counters_zero;
+pub use errors::is_bus_off;
+pub use errors::moved;
+pub use errors::rec_less;
+pub use errors::rec_more;
+pub use errors::tec_less;
+pub use errors::tec_more;
+pub use map::hold;
+pub use map::int_is_low;
+pub use map::power_on_core;
+pub use map::read;
+pub use map::region_of;
+pub use map::reset;
+pub use modes::enter;
+pub use modes::is_configuration;
+pub use modes::is_loopback;
+pub use modes::is_normal;
+pub use modes::mode_number;
+pub use modes::sends_in;
+pub use modes::settle;
+pub use modes::waits_in;
+pub use stores::in_flight;
+pub use stores::is_idle;
+pub use stores::is_locked;
+pub use stores::modify;
+pub use stores::request_to_send;
+pub use stores::same_tx;
+pub use stores::store;
+pub use stores::tx_control;
+pub use stores::tx_number;
+pub use stores::with_tx_control;
+pub use stores::writable;
+
+pub enum Mode {
+    Normal,
+    Sleep,
+    Loopback,
+    ListenOnly,
+    Configuration,
+}
+
+pub enum TxBuffer {
+    Txb0,
+    Txb1,
+    Txb2,
+}
+
+pub enum RxBuffer {
+    Rxb0,
+    Rxb1,
+}
+
+// The own frame on the bus.
+pub enum Flight {
+    Idle,
+    Of(TxBuffer),
+}
+
+// The mode asked for and not yet entered.
+pub enum Request {
+    Nothing,
+    Wanted(Mode),
+}
+
+pub struct State {
+    pub mode: Mode,
+    pub flight: Flight,
+    pub request: Request,
+}
+
+// EFLG keeps its two overflow bits here; the others follow from the counters.
+pub struct Flags {
+    pub canctrl: u8,
+    pub caninte: u8,
+    pub canintf: u8,
+    pub eflg: u8,
+}
+
+// TXBnCTRL.
+pub struct TxControl {
+    pub txb0: u8,
+    pub txb1: u8,
+    pub txb2: u8,
+}
+
+// RXBnCTRL.
+pub struct RxControl {
+    pub rxb0: u8,
+    pub rxb1: u8,
+}
+
+pub struct Counters {
+    pub tec: u16,
+    pub rec: u8,
+}
+
+// Everything that acts: apart from the bytes below, so that a bus event is seen to leave those alone.
+pub struct Control {
+    pub flags: Flags,
+    pub tx: TxControl,
+    pub rx: RxControl,
+    pub counters: Counters,
+    pub state: State,
+}
+
+// The bytes of 00h to 2Fh (filters, masks, CNF, BFPCTRL, TXRTSCTRL), 30h to 5Fh (messages to send) and 60h to 7Fh (messages received).
+pub struct Core {
+    pub control: Control,
+    pub config: [u8; 48],
+    pub tx: [u8; 48],
+    pub rx: [u8; 32],
+}
+
+// What lies at an address.
+pub enum Region {
+    Profile,
+    Configured,
+    Bfpctrl,
+    Tec,
+    Rec,
+    Caninte,
+    Canintf,
+    Eflg,
+    Canstat,
+    Canctrl,
+    TxCtrl(TxBuffer),
+    TxMessage(TxBuffer),
+    RxCtrl(RxBuffer),
+    RxMessage,
+}
