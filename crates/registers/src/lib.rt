@@ -17,6 +17,7 @@ pub use map::power_on_core;
 pub use map::read;
 pub use map::region_of;
 pub use map::reset;
+pub use map::rx_control;
 pub use modes::enter;
 pub use modes::is_configuration;
 pub use modes::is_loopback;

@@ -247,7 +247,7 @@ fn canstat(c: Control) -> u8
     mode_bits(m) | interrupt_bits(sources_of(f))
 }
 
-fn rx_control(r: RxControl, b: RxBuffer) -> u8
+pub fn rx_control(r: RxControl, b: RxBuffer) -> u8
     ensures { λ x. ⌜ x ≡ rxControl r b ⌝ }
 {
     match b {

@@ -1,0 +1,52 @@
+use borrow.Author.Needs.{needs}
+use Rattle.controller.proofs.events.finish_in.Statement.{statement}
+use Rattle.controller.proofs.events.finish_in.Tie as tie
+
+enum-told : tie.Need-enum-told
+enum-told c = search needs
+
+deliver-requires : tie.Need-deliver-requires
+deliver-requires c κs = search needs
+
+enum-told-2 : tie.Need-enum-told-2
+enum-told-2 c = search needs
+
+finish-requires : tie.Need-finish-requires
+finish-requires c κs = search needs
+
+enum-told-3 : tie.Need-enum-told-3
+enum-told-3 c = search needs
+
+finish-requires-2 : tie.Need-finish-requires-2
+finish-requires-2 c κs = search needs
+
+finish-requires-3 : tie.Need-finish-requires-3
+finish-requires-3 c κs = search needs
+
+returns : tie.Need-returns
+returns c = simp (c .deliver .ensures, c .before .enum-told .given .1, c .before .before .before .if1 .taken)
+
+returns-2 : tie.Need-returns-2
+returns-2 c = simp (c .finish .ensures, c .before .enum-told2 .given .1, c .before .before .before .if1 .taken)
+
+returns-3 : tie.Need-returns-3
+returns-3 c = simp (c .finish2 .ensures, c .before .enum-told3 .given .1, c .before .before .before .if1 .taken)
+
+returns-4 : tie.Need-returns-4
+returns-4 c = simp (c .finish3 .ensures, c .before .if1 .left)
+
+pub finish-in-spec : {M : Type 1} → statement M
+finish-in-spec =
+    tie.close
+    (tie.spec
+    enum-told
+    deliver-requires
+    enum-told-2
+    finish-requires
+    enum-told-3
+    finish-requires-2
+    finish-requires-3
+    returns
+    returns-2
+    returns-3
+    returns-4)

@@ -1,0 +1,160 @@
+-- Bus events, kinds 3 to 7: when one is refused, its answer, and the core after it.
+use Prim.Native.Nat.{ℕ}
+use mathlib.Core.Bool.{Bool, true, false, cond, not, _&&_}
+use mathlib.Core.List.{List}
+use lib.Dec.{eqb}
+use Rattle.bits.specs.Bit.{hasBit, setBit}
+use Rattle.records.specs.declared.Kind.{Kind}
+use Rattle.records.specs.declared.Kind.the-variants.{SelectLow, Exchange, SelectHigh, FrameHeard, BusIdle, FrameEnds, ReceiveError, Recovery, Unknown}
+use Rattle.records.specs.declared.Frame.{Frame}
+use Rattle.records.specs.Records.{accepted, refusedField, refusedInFlight, refusedNoFlight, refusedState, byteAt, kindOf, frameOf, soundOf}
+use Rattle.registers.specs.declared.Mode.{Mode}
+use Rattle.registers.specs.declared.Mode.the-variants.{Normal, Sleep, Loopback, ListenOnly, Configuration}
+use Rattle.registers.specs.declared.Flight.{Flight}
+use Rattle.registers.specs.declared.Flight.the-variants.{Idle, Of}
+use Rattle.registers.specs.declared.TxBuffer.{TxBuffer}
+use Rattle.registers.specs.declared.Control.{Control}
+use Rattle.registers.specs.declared.Core.{Core}
+use Rattle.registers.specs.State.{WAKIF, MERRF, isNormal, isLoopback, isIdle, withCounters, withCanintf, withControl}
+use Rattle.registers.specs.Errors.{isBusOff, movedTo, recLess, recMore, noErrors}
+use Rattle.registers.specs.Modes.{entered, settled}
+use Rattle.receiving.specs.declared.Received.{Received}
+use Rattle.receiving.specs.declared.Reception.{Reception}
+use Rattle.receiving.specs.declared.Reception.the-variants.{NotListening, Woke}
+use Rattle.receiving.specs.Receiving.{receptionNumber, receivedOf}
+use Rattle.controller.specs.declared.End.{End}
+use Rattle.controller.specs.declared.End.the-variants.{Sent, LostArbitration, Failed}
+use Rattle.controller.specs.declared.Happened.{Happened}
+use Rattle.controller.specs.declared.Told.{Told}
+use Rattle.controller.specs.Sending.{choiceNumber, choiceOf, started, endOf, counted, sentBy, endedBy, frameSent}
+
+-- ---- kind 3: a frame
+abbrev pub ignored : Core → Received
+ignored k = record { core = k; answer = NotListening }
+
+-- Sleep: if WAKIE is set, a frame wakes to Listen-Only with WAKIF, without storing
+abbrev pub wokenControl : Control → Control
+wokenControl c = withCanintf (entered c ListenOnly) (setBit (c .flags .canintf) WAKIF)
+
+abbrev pub sleeping : Core → Received
+sleeping k =
+    cond (hasBit (k .control .flags .caninte) WAKIF)
+    (record { core = withControl k (wokenControl (k .control)); answer = Woke })
+    (ignored k)
+
+-- in Normal a good frame heard, matched or not, moves REC
+abbrev pub goodFrame : Core → Frame → Received
+goodFrame k f =
+    record {
+      core = withControl (receivedOf k f .core) (movedTo (receivedOf k f .core .control) (recLess (k .control .counters)));
+      answer = receivedOf k f .answer;
+    }
+
+-- no listening in Configuration, Loopback, bus-off or unwoken Sleep
+abbrev pub heardIn : Mode → Core → Frame → Received
+heardIn Normal k f = cond (isBusOff (k .control .counters)) (ignored k) (goodFrame k f)
+heardIn Sleep k f = sleeping k
+heardIn Loopback k f = ignored k
+heardIn ListenOnly k f = cond (isBusOff (k .control .counters)) (ignored k) (receivedOf k f)
+heardIn Configuration k f = ignored k
+
+unfoldable pub heardOf : Core → Frame → Received
+heardOf k f = heardIn (k .control .state .mode) k f
+
+abbrev pub answered : Received → Happened
+answered h = record { answer = receptionNumber (h .answer); core = h .core }
+
+-- ---- kind 5: an own frame ends. Loopback delivers a sent frame to its own receive rules and moves no counter
+abbrev pub delivered : Core → TxBuffer → Happened
+delivered k b = answered (receivedOf (withControl k (sentBy (k .control) b)) (frameSent (k .tx) b))
+
+abbrev pub finished : Core → TxBuffer → End → Happened
+finished k b e = record { answer = 0; core = withControl k (endedBy e (k .control) b) }
+
+abbrev pub endsIn : Bool → Core → TxBuffer → End → Happened
+endsIn true k b Sent = delivered k b
+endsIn true k b LostArbitration = finished k b LostArbitration
+endsIn true k b Failed = finished k b Failed
+endsIn false k b e = finished k b e
+
+abbrev pub endsBy : Flight → Core → End → Happened
+endsBy Idle k e = record { answer = 0; core = k }
+endsBy (Of b) k e = endsIn (isLoopback (k .control .state .mode)) k b e
+
+unfoldable pub ended : Core → ℕ → Happened
+ended k n = endsBy (k .control .state .flight) k (endOf n)
+
+-- ---- kind 4, 6, 7
+unfoldable pub idled : Core → Happened
+idled k = record { answer = choiceNumber (choiceOf (k .control)); core = withControl k (started (choiceOf (k .control)) (k .control)) }
+
+-- byte 1: 0 adds 1, 1 adds 8; MERRF; outside Normal and in bus-off nothing
+abbrev pub errorAdds : ℕ → ℕ
+errorAdds n = cond (eqb n 0) 1 8
+
+abbrev pub erred : Control → ℕ → Control
+erred c by = movedTo (withCanintf c (setBit (c .flags .canintf) MERRF)) (recMore (c .counters) by)
+
+unfoldable pub errorHeard : Control → ℕ → Control
+errorHeard c n = cond (isNormal (c .state .mode) && not (isBusOff (c .counters))) (erred c (errorAdds n)) c
+
+-- recovery zeroes both counters
+abbrev pub recovered : Control → Control
+recovered c = withCounters c noErrors
+
+abbrev pub quiet : Core → Control → Happened
+quiet k c = record { answer = 0; core = withControl k c }
+
+-- ---- an accepted event
+abbrev pub happensBy : Kind → Core → List ℕ → Happened
+happensBy SelectLow k r = record { answer = 0; core = k }
+happensBy Exchange k r = record { answer = 0; core = k }
+happensBy SelectHigh k r = record { answer = 0; core = k }
+happensBy FrameHeard k r = answered (heardOf k (frameOf r))
+happensBy BusIdle k r = idled k
+happensBy FrameEnds k r = ended k (byteAt r 1)
+happensBy ReceiveError k r = quiet k (errorHeard (k .control) (byteAt r 1))
+happensBy Recovery k r = quiet k (recovered (k .control))
+happensBy Unknown k r = record { answer = 0; core = k }
+
+-- ---- refusals 3, 4 and 5, where refusal 2 does not name the record; a record that is no event is refused as a field
+abbrev pub busyRefusal : Control → ℕ
+busyRefusal c = cond (isIdle (c .state .flight)) accepted refusedInFlight
+
+-- kind 5 with none in flight; outcome 1 or 2 in Loopback
+abbrev pub endRefusal : Control → ℕ → ℕ
+endRefusal c n =
+    cond (isIdle (c .state .flight)) refusedNoFlight
+    (cond (isLoopback (c .state .mode) && not (eqb n 0)) refusedState accepted)
+
+-- kind 7 when not bus-off
+abbrev pub recoveryRefusal : Control → ℕ
+recoveryRefusal c = cond (isBusOff (c .counters)) accepted refusedState
+
+abbrev pub refusalBy : Kind → Control → List ℕ → ℕ
+refusalBy SelectLow c r = refusedField
+refusalBy Exchange c r = refusedField
+refusalBy SelectHigh c r = refusedField
+refusalBy FrameHeard c r = busyRefusal c
+refusalBy BusIdle c r = busyRefusal c
+refusalBy FrameEnds c r = endRefusal c (byteAt r 1)
+refusalBy ReceiveError c r = busyRefusal c
+refusalBy Recovery c r = recoveryRefusal c
+refusalBy Unknown c r = refusedField
+
+unfoldable pub eventRefusal : Control → List ℕ → ℕ
+eventRefusal c r = cond (soundOf r) (refusalBy (kindOf r) c r) refusedField
+
+-- ---- the event: refused, it answers 0 and changes nothing; accepted, its last act is the mode request
+abbrev pub settledCore : Core → Core
+settledCore k = withControl k (settled (k .control))
+
+abbrev pub toldOf : Happened → Told
+toldOf h = record { refusal = accepted; answer = h .answer; core = settledCore (h .core) }
+
+abbrev pub refusedBy : ℕ → Core → Told
+refusedBy n k = record { refusal = n; answer = 0; core = k }
+
+unfoldable pub eventOf : Core → List ℕ → Told
+eventOf k r =
+    cond (eqb (eventRefusal (k .control) r) accepted) (toldOf (happensBy (kindOf r) k r)) (refusedBy (eventRefusal (k .control) r) k)

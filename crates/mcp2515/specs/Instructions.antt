@@ -1,0 +1,194 @@
+-- Instructions: the SPI side as an automaton. A byte and the open instruction give the next open instruction and one act on the core.
+use Prim.Native.Nat.{ℕ, _+_, _/_, _%_}
+use mathlib.Core.Bool.{Bool, true, false, cond}
+use lib.Dec.{eqb, ltb}
+use lib.Bits.{bitOr}
+use lib.ListN.{getD}
+use Rattle.bits.specs.Bit.{hasBit, clearBit}
+use Rattle.registers.specs.declared.TxBuffer.{TxBuffer}
+use Rattle.registers.specs.declared.TxBuffer.the-variants.{Txb0, Txb1, Txb2}
+use Rattle.registers.specs.declared.RxBuffer.{RxBuffer}
+use Rattle.registers.specs.declared.RxBuffer.the-variants.{Rxb0, Rxb1}
+use Rattle.registers.specs.declared.Control.{Control}
+use Rattle.registers.specs.declared.Core.{Core}
+use Rattle.registers.specs.State.{RX0IF, RX1IF, TX0IF, TX1IF, TX2IF, TXREQ, RXRTR, rxFlag, withCanintf, withControl}
+use Rattle.registers.specs.Registers.{reads, resetCore}
+use Rattle.registers.specs.Store.{stored, modified, requestedToSend}
+use Rattle.controller.specs.Events.{settledCore}
+use Rattle.mcp2515.specs.declared.Command.{Command}
+use Rattle.mcp2515.specs.declared.Command.the-variants.{Reset, Read, Write, BitModify, ReadRxBuffer, LoadTxBuffer, Rts, ReadStatus, RxStatus, UnknownCode}
+use Rattle.mcp2515.specs.declared.Instruction.{Instruction}
+use Rattle.mcp2515.specs.declared.Instruction.the-variants.{First, ReadAddress, Reading, WriteAddress, Writing, ModifyAddress, ModifyMask, ModifyData, ReadingBuffer, StatusReply, RxStatusReply, Done}
+use Rattle.mcp2515.specs.declared.Act.{Act}
+use Rattle.mcp2515.specs.declared.Act.the-variants.{Rest, ResetAll, Fetch, Store, Modify, RequestToSend, ClearFlag, FetchStatus, FetchRxStatus, Refuse}
+
+-- ---- the codes
+unfoldable pub commandOf : ℕ → Command
+commandOf b =
+    cond (eqb b 0xC0) Reset
+    (cond (eqb b 0x03) Read
+    (cond (eqb b 0x02) Write
+    (cond (eqb b 0x05) BitModify
+    (cond (eqb b 0x90) (ReadRxBuffer Rxb0 0x61)
+    (cond (eqb b 0x92) (ReadRxBuffer Rxb0 0x66)
+    (cond (eqb b 0x94) (ReadRxBuffer Rxb1 0x71)
+    (cond (eqb b 0x96) (ReadRxBuffer Rxb1 0x76)
+    (cond (eqb b 0x40) (LoadTxBuffer Txb0 0x31)
+    (cond (eqb b 0x41) (LoadTxBuffer Txb0 0x36)
+    (cond (eqb b 0x42) (LoadTxBuffer Txb1 0x41)
+    (cond (eqb b 0x43) (LoadTxBuffer Txb1 0x46)
+    (cond (eqb b 0x44) (LoadTxBuffer Txb2 0x51)
+    (cond (eqb b 0x45) (LoadTxBuffer Txb2 0x56)
+    (cond (eqb b 0xA0) ReadStatus
+    (cond (eqb b 0xB0) RxStatus
+    (cond (eqb (b / 8) 16) (Rts (b % 8)) UnknownCode))))))))))))))))
+
+-- ---- the first byte: RESET and RTS act on it
+abbrev pub firstAct : Command → Act
+firstAct Reset = ResetAll
+firstAct Read = Rest
+firstAct Write = Rest
+firstAct BitModify = Rest
+firstAct (ReadRxBuffer b a) = Rest
+firstAct (LoadTxBuffer b a) = Rest
+firstAct (Rts m) = RequestToSend m
+firstAct ReadStatus = Rest
+firstAct RxStatus = Rest
+firstAct UnknownCode = Rest
+
+-- READ RX BUFFER goes on as READ but for its end; LOAD TX BUFFER goes on as WRITE
+abbrev pub opened : Command → Instruction
+opened Reset = Done
+opened Read = ReadAddress
+opened Write = WriteAddress
+opened BitModify = ModifyAddress
+opened (ReadRxBuffer b a) = ReadingBuffer b a
+opened (LoadTxBuffer b a) = Writing a
+opened (Rts m) = Done
+opened ReadStatus = StatusReply
+opened RxStatus = RxStatusReply
+opened UnknownCode = Done
+
+-- ---- an exchange; addresses count modulo 128
+abbrev pub rising : ℕ → ℕ
+rising a = (a % 128 + 1) % 128
+
+-- WRITE takes each byte as it completes, BIT MODIFY acts on its data byte, a status repeats; bytes past an instruction's last do nothing
+abbrev pub exchangeAct : Instruction → ℕ → Act
+exchangeAct First b = firstAct (commandOf b)
+exchangeAct ReadAddress b = Rest
+exchangeAct (Reading a) b = Fetch a
+exchangeAct WriteAddress b = Rest
+exchangeAct (Writing a) b = Store a b
+exchangeAct ModifyAddress b = Rest
+exchangeAct (ModifyMask a) b = Rest
+exchangeAct (ModifyData a m) b = Modify a m b
+exchangeAct (ReadingBuffer n a) b = Fetch a
+exchangeAct StatusReply b = FetchStatus
+exchangeAct RxStatusReply b = FetchRxStatus
+exchangeAct Done b = Rest
+
+abbrev pub exchangeNext : Instruction → ℕ → Instruction
+exchangeNext First b = opened (commandOf b)
+exchangeNext ReadAddress b = Reading (b % 128)
+exchangeNext (Reading a) b = Reading (rising a)
+exchangeNext WriteAddress b = Writing (b % 128)
+exchangeNext (Writing a) b = Writing (rising a)
+exchangeNext ModifyAddress b = ModifyMask (b % 128)
+exchangeNext (ModifyMask a) b = ModifyData a b
+exchangeNext (ModifyData a m) b = Done
+exchangeNext (ReadingBuffer n a) b = ReadingBuffer n (rising a)
+exchangeNext StatusReply b = StatusReply
+exchangeNext RxStatusReply b = RxStatusReply
+exchangeNext Done b = Done
+
+-- ---- select high: after READ RX BUFFER it clears that RXnIF
+abbrev pub highAct : Instruction → Act
+highAct First = Rest
+highAct ReadAddress = Rest
+highAct (Reading a) = Rest
+highAct WriteAddress = Rest
+highAct (Writing a) = Rest
+highAct ModifyAddress = Rest
+highAct (ModifyMask a) = Rest
+highAct (ModifyData a m) = Rest
+highAct (ReadingBuffer n a) = ClearFlag n
+highAct StatusReply = Rest
+highAct RxStatusReply = Rest
+highAct Done = Rest
+
+-- ---- the two statuses
+-- A0h, bits 0 to 7: RX0IF, RX1IF, then TXREQ and TXnIF of buffers 0, 1, 2
+unfoldable pub statusOf : Control → ℕ
+statusOf c =
+    bitOr (cond (hasBit (c .flags .canintf) RX0IF) 0x01 0)
+    (bitOr (cond (hasBit (c .flags .canintf) RX1IF) 0x02 0)
+    (bitOr (cond (hasBit (c .tx .txb0) TXREQ) 0x04 0)
+    (bitOr (cond (hasBit (c .flags .canintf) TX0IF) 0x08 0)
+    (bitOr (cond (hasBit (c .tx .txb1) TXREQ) 0x10 0)
+    (bitOr (cond (hasBit (c .flags .canintf) TX1IF) 0x20 0)
+    (bitOr (cond (hasBit (c .tx .txb2) TXREQ) 0x40 0)
+    (cond (hasBit (c .flags .canintf) TX2IF) 0x80 0)))))))
+
+-- B0h: bit 4 extended, bit 3 remote, bits 2-0 the filter
+abbrev pub described : ℕ → ℕ → ℕ → ℕ
+described ctrl sidl filter = bitOr (cond (hasBit sidl 3) 0x10 0) (bitOr (cond (hasBit ctrl RXRTR) 0x08 0) filter)
+
+-- hits 0 and 1 of RXB1 show as 6 and 7
+abbrev pub shownHit : ℕ → ℕ
+shownHit h = cond (ltb h 2) (h + 6) h
+
+abbrev pub describedRxb0 : Core → ℕ
+describedRxb0 k = described (k .control .rx .rxb0) (getD (k .rx) 2 0) (k .control .rx .rxb0 % 2)
+
+abbrev pub describedRxb1 : Core → ℕ
+describedRxb1 k = described (k .control .rx .rxb1) (getD (k .rx) 18 0) (shownHit (k .control .rx .rxb1 % 8))
+
+-- bits 7-6 RXB1, RXB0 full; the rest of RXB0 if full, else of RXB1; none full gives 0
+unfoldable pub rxStatusOf : Core → ℕ
+rxStatusOf k =
+    bitOr (cond (hasBit (k .control .flags .canintf) RX1IF) 0x80 0)
+    (bitOr (cond (hasBit (k .control .flags .canintf) RX0IF) 0x40 0)
+    (cond (hasBit (k .control .flags .canintf) RX0IF) (describedRxb0 k)
+    (cond (hasBit (k .control .flags .canintf) RX1IF) (describedRxb1 k) 0)))
+
+-- ---- what an act replies, sampled at its exchange; every other reply is 0
+abbrev pub replyTo : Act → Core → ℕ
+replyTo Rest k = 0
+replyTo ResetAll k = 0
+replyTo (Fetch a) k = reads k a
+replyTo (Store a b) k = 0
+replyTo (Modify a m b) k = 0
+replyTo (RequestToSend m) k = 0
+replyTo (ClearFlag n) k = 0
+replyTo FetchStatus k = statusOf (k .control)
+replyTo FetchRxStatus k = rxStatusOf k
+replyTo (Refuse n) k = 0
+
+-- ---- what an act does; the last act of each accepted step is the mode request
+abbrev pub clearedOf : Control → RxBuffer → Control
+clearedOf c n = withCanintf c (clearBit (c .flags .canintf) (rxFlag n))
+
+abbrev pub acted : Act → Core → Core
+acted Rest k = settledCore k
+acted ResetAll k = settledCore (resetCore k)
+acted (Fetch a) k = settledCore k
+acted (Store a b) k = settledCore (stored k a b)
+acted (Modify a m b) k = settledCore (modified k a m b)
+acted (RequestToSend m) k = settledCore (withControl k (requestedToSend (k .control) m))
+acted (ClearFlag n) k = settledCore (withControl k (clearedOf (k .control) n))
+acted FetchStatus k = settledCore k
+acted FetchRxStatus k = settledCore k
+acted (Refuse n) k = k
+
+abbrev pub refusalOf : Act → ℕ
+refusalOf Rest = 0
+refusalOf ResetAll = 0
+refusalOf (Fetch a) = 0
+refusalOf (Store a b) = 0
+refusalOf (Modify a m b) = 0
+refusalOf (RequestToSend m) = 0
+refusalOf (ClearFlag n) = 0
+refusalOf FetchStatus = 0
+refusalOf FetchRxStatus = 0
+refusalOf (Refuse n) = n

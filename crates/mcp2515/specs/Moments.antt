@@ -1,0 +1,241 @@
+-- The single-moment list and the tidied list: a command happens at one moment, whatever the bus does.
+-- The words session, command, listed, moment, event and tidied list are those of the rules.
+use mathlib.Core.Bool.{Bool, true, false, cond, not, _&&_}
+use mathlib.Core.List.{List, [], _∷_, _++_}
+use mathlib.Core.Option.{Option, none, some}
+use mathlib.Core.Path.{_≡_}
+use Prim.Native.Nat.{ℕ, zero, suc, _+_, _-_, _%_}
+use lib.ListN.{length}
+use lib.Dec.{eqb, leb}
+use Rattle.bits.specs.Bit.{hasBit}
+use Rattle.records.specs.declared.Kind.{Kind}
+use Rattle.records.specs.declared.Kind.the-variants.{SelectLow, Exchange, SelectHigh, FrameHeard, BusIdle, FrameEnds, ReceiveError, Recovery, Unknown}
+use Rattle.records.specs.Records.{byteAt, kindOf, isEvent}
+use Rattle.registers.specs.declared.RxBuffer.{RxBuffer}
+use Rattle.registers.specs.declared.TxBuffer.{TxBuffer}
+use Rattle.registers.specs.declared.Core.{Core}
+use Rattle.registers.specs.State.{rxFlag}
+use Rattle.registers.specs.Store.{isLocked}
+use Rattle.mcp2515.specs.declared.Command.{Command}
+use Rattle.mcp2515.specs.declared.Command.the-variants.{Reset, Read, Write, BitModify, ReadRxBuffer, LoadTxBuffer, Rts, ReadStatus, RxStatus, UnknownCode}
+use Rattle.mcp2515.specs.declared.Chip.{Chip}
+use Rattle.mcp2515.specs.Instructions.{commandOf}
+use Rattle.mcp2515.specs.Step.{powerOn, Outcome, nextChip, outcome, chipAfter, outcomes}
+
+-- ---- what a record is in a run
+-- an event (kinds 3 to 7, refused ones too); an accepted select low, exchange or select high; any other record is refused
+pub data Role : Type 0 where
+  event low exchange high other : Role
+
+abbrev pub acceptedRole : Kind → Role
+acceptedRole SelectLow = low
+acceptedRole Exchange = exchange
+acceptedRole SelectHigh = high
+acceptedRole FrameHeard = event
+acceptedRole BusIdle = event
+acceptedRole FrameEnds = event
+acceptedRole ReceiveError = event
+acceptedRole Recovery = event
+acceptedRole Unknown = other
+
+unfoldable pub roleOf : List ℕ → Outcome → Role
+roleOf r o = cond (isEvent (kindOf r)) event (cond (eqb (o .refusal) 0) (acceptedRole (kindOf r)) other)
+
+abbrev pub isEventRole : Role → Bool
+isEventRole event = true
+isEventRole low = false
+isEventRole exchange = false
+isEventRole high = false
+isEventRole other = false
+
+abbrev pub isLow : Role → Bool
+isLow event = false
+isLow low = true
+isLow exchange = false
+isLow high = false
+isLow other = false
+
+abbrev pub isExchange : Role → Bool
+isExchange event = false
+isExchange low = false
+isExchange exchange = true
+isExchange high = false
+isExchange other = false
+
+abbrev pub isHigh : Role → Bool
+isHigh event = false
+isHigh low = false
+isHigh exchange = false
+isHigh high = true
+isHigh other = false
+
+-- A record of a run, with the chip that it met and its refusal and answer there.
+pub record Entry : Type 0 where
+  pub met : Chip
+  pub rec : List ℕ
+  pub out : Outcome
+
+abbrev pub roleIn : Entry → Role
+roleIn x = roleOf (x .rec) (x .out)
+
+-- The run of a list of records.
+unfoldable pub trace : Chip → List (List ℕ) → List Entry
+trace c [] = []
+trace c (r ∷ rs) = record { met = c; rec = r; out = outcome c r } ∷ trace (nextChip c r) rs
+
+-- ---- the single-moment list, a row for each command by its first byte
+-- the bytes of a buffer from this address to data byte 7
+abbrev pub bytesFrom : ℕ → ℕ
+bytesFrom a = 14 - a % 16
+
+-- the most exchanges of a listed session; extra is how many bytes past the last of RESET, RTS and BIT MODIFY it may have, 0 as the rules list them
+abbrev pub most : ℕ → Command → ℕ
+most extra Reset = 1 + extra
+most extra (Rts m) = 1 + extra
+most extra BitModify = 4 + extra
+most extra Read = 3
+most extra Write = 3
+most extra ReadStatus = 2
+most extra RxStatus = 2
+most extra (ReadRxBuffer b a) = 1 + bytesFrom a
+most extra (LoadTxBuffer b a) = 1 + bytesFrom a
+most extra UnknownCode = 1
+
+-- the number of the exchange that is the moment, from 0; where the session has no such exchange the moment is select high
+abbrev pub momentOf : Command → ℕ
+momentOf Reset = 0
+momentOf (Rts m) = 0
+momentOf BitModify = 3
+momentOf Read = 2
+momentOf Write = 2
+momentOf ReadStatus = 1
+momentOf RxStatus = 1
+momentOf (ReadRxBuffer b a) = 1 + bytesFrom a
+momentOf (LoadTxBuffer b a) = 1 + bytesFrom a
+momentOf UnknownCode = 1
+
+-- asked at select low: RXnIF set; TXREQ clear and not in flight
+abbrev pub isFull : Core → RxBuffer → Bool
+isFull k b = hasBit (k .control .flags .canintf) (rxFlag b)
+
+abbrev pub isFree : Core → TxBuffer → Bool
+isFree k b = not (isLocked (k .control) b)
+
+abbrev pub allowed : Core → Command → Bool
+allowed k Reset = true
+allowed k (Rts m) = true
+allowed k BitModify = true
+allowed k Read = true
+allowed k Write = true
+allowed k ReadStatus = true
+allowed k RxStatus = true
+allowed k (ReadRxBuffer b a) = isFull k b
+allowed k (LoadTxBuffer b a) = isFree k b
+allowed k UnknownCode = true
+
+-- The moment, if a session with these bytes, its select low at this chip, is listed. A session with no exchange is a command cut short.
+unfoldable pub listed : ℕ → Chip → List ℕ → Option ℕ
+listed extra c [] = some 0
+listed extra c (b ∷ bs) =
+    cond (leb (length (b ∷ bs)) (most extra (commandOf b)) && allowed (c .core) (commandOf b)) (some (momentOf (commandOf b))) none
+
+-- ---- the tidied list
+unfoldable pub events : List Entry → List Entry
+events [] = []
+events (x ∷ xs) = cond (isEventRole (roleIn x)) (x ∷ events xs) (events xs)
+
+unfoldable pub others : List Entry → List Entry
+others [] = []
+others (x ∷ xs) = cond (isEventRole (roleIn x)) (others xs) (x ∷ others xs)
+
+-- the bytes of the accepted exchanges
+unfoldable pub bytes : List Entry → List ℕ
+bytes [] = []
+bytes (x ∷ xs) = cond (isExchange (roleIn x)) (byteAt (x .rec) 1 ∷ bytes xs) (bytes xs)
+
+-- what stands before accepted exchange number k, and the rest
+unfoldable pub before : ℕ → List Entry → List Entry
+before k [] = []
+before k (x ∷ xs) = cond (isExchange (roleIn x)) (elim k [ zero ↦ [] | suc j ↦ x ∷ before j xs ]) (x ∷ before k xs)
+
+unfoldable pub after : ℕ → List Entry → List Entry
+after k [] = []
+after k (x ∷ xs) = cond (isExchange (roleIn x)) (elim k [ zero ↦ x ∷ xs | suc j ↦ after j xs ]) (after k xs)
+
+-- A session: its select low, what stands inside, its select high. Of a listed one the events before the moment go directly before
+-- its select low and the others directly after its select high.
+unfoldable pub placed : Option ℕ → Entry → List Entry → Entry → List Entry
+placed none l s h = l ∷ (s ++ (h ∷ []))
+placed (some k) l s h = events (before k s) ++ (l ∷ (others s ++ (h ∷ events (after k s))))
+
+unfoldable pub session : ℕ → Entry → List Entry → Entry → List Entry
+session extra l s h = placed (listed extra (l .met) (bytes s)) l s h
+
+-- Outside a session, or inside one that began with this entry and has come so far.
+pub data Place : Type 0 where
+  outside : Place
+  inside : Entry → List Entry → Place
+
+unfoldable pub tidyFrom : ℕ → Place → List Entry → List Entry
+tidyFrom extra outside [] = []
+tidyFrom extra outside (x ∷ xs) = cond (isLow (roleIn x)) (tidyFrom extra (inside x []) xs) (x ∷ tidyFrom extra outside xs)
+tidyFrom extra (inside l s) [] = l ∷ s
+tidyFrom extra (inside l s) (x ∷ xs) =
+    cond (isHigh (roleIn x)) (session extra l s x ++ tidyFrom extra outside xs) (tidyFrom extra (inside l (s ++ (x ∷ []))) xs)
+
+unfoldable pub tidy : ℕ → List Entry → List Entry
+tidy extra t = tidyFrom extra outside t
+
+unfoldable pub records : List Entry → List (List ℕ)
+records [] = []
+records (x ∷ xs) = x .rec ∷ records xs
+
+unfoldable pub outs : List Entry → List Outcome
+outs [] = []
+outs (x ∷ xs) = x .out ∷ outs xs
+
+-- ---- demand 3
+-- Run a list from power-on and tidy it. Run by the rules from power-on again, the tidied records get the refusals and answers that
+-- they had, each its own, and the end state is the same.
+abbrev pub Demand3For : ℕ → Type 0
+Demand3For extra =
+    (rs : List (List ℕ))
+    → (outcomes powerOn (records (tidy extra (trace powerOn rs))) ≡ outs (tidy extra (trace powerOn rs)))
+    × (chipAfter powerOn (records (tidy extra (trace powerOn rs))) ≡ chipAfter powerOn rs)
+
+-- as the rules list the commands: no byte past an instruction's last
+abbrev pub Demand3 : Type 0
+Demand3 = Demand3For 0
+
+-- ---- what keeps the tidied list honest
+-- the events of the list in their order, and its other records in theirs
+abbrev pub SameOrder : ℕ → Type 0
+SameOrder extra = (t : List Entry) → (events (tidy extra t) ≡ events t) × (others (tidy extra t) ≡ others t)
+
+-- no event stands inside a listed session
+abbrev pub Still : Option ℕ → List Entry → Type 0
+Still none s = Unit {0}
+Still (some k) s = events s ≡ []
+
+abbrev pub Apart : ℕ → Place → List Entry → Type 0
+Apart extra p [] = Unit {0}
+Apart extra outside (x ∷ xs) = Apart extra (cond (isLow (roleIn x)) (inside x []) outside) xs
+Apart extra (inside l s) (x ∷ xs) =
+    cond (isHigh (roleIn x)) (Still (listed extra (l .met) (bytes s)) s × Apart extra outside xs) (Apart extra (inside l (s ++ (x ∷ []))) xs)
+
+-- then the list is tidy as it stands
+abbrev pub TidyKept : ℕ → Type 0
+TidyKept extra = (t : List Entry) → Apart extra outside t → tidy extra t ≡ t
+
+-- nothing inside is an accepted select high
+abbrev pub Inner : List Entry → Type 0
+Inner [] = Unit {0}
+Inner (x ∷ xs) = (isHigh (roleIn x) ≡ false) × Inner xs
+
+-- tidying is fixed by these equations on whole lists
+pub record TidyIs (extra : ℕ) : Type 0 where
+  pub empty : tidy extra [] ≡ []
+  pub beyond : (x : Entry) (t : List Entry) → isLow (roleIn x) ≡ false → tidy extra (x ∷ t) ≡ x ∷ tidy extra t
+  pub whole : (l : Entry) (s : List Entry) (h : Entry) (t : List Entry) → isLow (roleIn l) ≡ true → Inner s → isHigh (roleIn h) ≡ true
+      → tidy extra (l ∷ (s ++ (h ∷ t))) ≡ session extra l s h ++ tidy extra t
+  pub stillOpen : (l : Entry) (s : List Entry) → isLow (roleIn l) ≡ true → Inner s → tidy extra (l ∷ s) ≡ l ∷ s

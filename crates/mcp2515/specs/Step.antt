@@ -1,0 +1,99 @@
+-- The step: any chip and any record of 16 bytes; and the run of a list of records.
+use Prim.Native.Nat.{ℕ}
+use mathlib.Core.Bool.{Bool, true, false, cond}
+use mathlib.Core.List.{List, [], _∷_}
+use mathlib.Core.Path.{_≡_}
+use Rattle.records.specs.declared.Kind.{Kind}
+use Rattle.records.specs.declared.Kind.the-variants.{SelectLow, Exchange, SelectHigh, FrameHeard, BusIdle, FrameEnds, ReceiveError, Recovery, Unknown}
+use Rattle.records.specs.Records.{refusedSelect, refusedField, byteAt, kindOf, isEvent, soundOf}
+use Rattle.registers.specs.declared.Core.{Core}
+use Rattle.registers.specs.Registers.{powerOnCore}
+use Rattle.controller.specs.Events.{eventOf}
+use Rattle.mcp2515.specs.declared.Instruction.{Instruction}
+use Rattle.mcp2515.specs.declared.Instruction.the-variants.{First}
+use Rattle.mcp2515.specs.declared.Select.{Select}
+use Rattle.mcp2515.specs.declared.Select.the-variants.{Raised, Lowered}
+use Rattle.mcp2515.specs.declared.Act.{Act}
+use Rattle.mcp2515.specs.declared.Act.the-variants.{Rest, Refuse}
+use Rattle.mcp2515.specs.declared.Chip.{Chip}
+use Rattle.mcp2515.specs.declared.Stepped.{Stepped}
+use Rattle.mcp2515.specs.Instructions.{exchangeAct, exchangeNext, highAct, replyTo, acted, refusalOf}
+
+-- power-on has select high
+unfoldable pub powerOn : Chip
+powerOn = record { core = powerOnCore; select = Raised }
+
+-- ---- the SPI side of a step
+-- refusal 1: select low while low; exchange or select high while high
+abbrev pub askedBy : Kind → Select → ℕ → Act
+askedBy SelectLow Raised b = Rest
+askedBy SelectLow (Lowered i) b = Refuse refusedSelect
+askedBy Exchange Raised b = Refuse refusedSelect
+askedBy Exchange (Lowered i) b = exchangeAct i b
+askedBy SelectHigh Raised b = Refuse refusedSelect
+askedBy SelectHigh (Lowered i) b = highAct i
+askedBy FrameHeard s b = Refuse refusedField
+askedBy BusIdle s b = Refuse refusedField
+askedBy FrameEnds s b = Refuse refusedField
+askedBy ReceiveError s b = Refuse refusedField
+askedBy Recovery s b = Refuse refusedField
+askedBy Unknown s b = Refuse refusedField
+
+-- refusal 2 is tested first
+unfoldable pub asked : Select → List ℕ → Act
+asked s r = cond (soundOf r) (askedBy (kindOf r) s (byteAt r 1)) (Refuse refusedField)
+
+abbrev pub turnedBy : Kind → Select → ℕ → Select
+turnedBy SelectLow Raised b = Lowered First
+turnedBy SelectLow (Lowered i) b = Lowered i
+turnedBy Exchange Raised b = Raised
+turnedBy Exchange (Lowered i) b = Lowered (exchangeNext i b)
+turnedBy SelectHigh s b = Raised
+turnedBy FrameHeard s b = s
+turnedBy BusIdle s b = s
+turnedBy FrameEnds s b = s
+turnedBy ReceiveError s b = s
+turnedBy Recovery s b = s
+turnedBy Unknown s b = s
+
+unfoldable pub turned : Select → List ℕ → Select
+turned s r = cond (soundOf r) (turnedBy (kindOf r) s (byteAt r 1)) s
+
+abbrev pub spiStep : Chip → List ℕ → Stepped
+spiStep c r =
+    record {
+      refusal = refusalOf (asked (c .select) r);
+      answer = replyTo (asked (c .select) r) (c .core);
+      chip = record { core = acted (asked (c .select) r) (c .core); select = turned (c .select) r };
+    }
+
+-- ---- a bus event never looks at the SPI side
+abbrev pub eventStep : Chip → List ℕ → Stepped
+eventStep c r =
+    record {
+      refusal = eventOf (c .core) r .refusal;
+      answer = eventOf (c .core) r .answer;
+      chip = record { core = eventOf (c .core) r .core; select = c .select };
+    }
+
+unfoldable pub stepOf : Chip → List ℕ → Stepped
+stepOf c r = cond (isEvent (kindOf r)) (eventStep c r) (spiStep c r)
+
+-- ---- the run of a list: each step gets the chip that the last one gave back
+pub record Outcome : Type 0 where
+  pub refusal : ℕ
+  pub answer : ℕ
+
+abbrev pub nextChip : Chip → List ℕ → Chip
+nextChip c r = stepOf c r .chip
+
+abbrev pub outcome : Chip → List ℕ → Outcome
+outcome c r = record { refusal = stepOf c r .refusal; answer = stepOf c r .answer }
+
+unfoldable pub chipAfter : Chip → List (List ℕ) → Chip
+chipAfter c [] = c
+chipAfter c (r ∷ rs) = chipAfter (nextChip c r) rs
+
+unfoldable pub outcomes : Chip → List (List ℕ) → List Outcome
+outcomes c [] = []
+outcomes c (r ∷ rs) = outcome c r ∷ outcomes (nextChip c r) rs

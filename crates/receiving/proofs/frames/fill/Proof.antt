@@ -1,0 +1,82 @@
+-- The loop's invariant: the first j data bytes are stored. The measure is what is left of the eight.
+use Prim.Native.Nat.{_≤_, _-_}
+use native.Mathlib.Omega.{arith}
+use native.Mathlib.Numerals.{add-one}
+use mathlib.Core.Path.{_≡_, refl}
+use Rattle.receiving.specs.Receiving.{filled}
+use mathlib.Core.Path.{sym}
+use borrow.Author.Needs.{needs}
+use Rattle.receiving.proofs.frames.fill.Statement.{statement}
+use Rattle.receiving.proofs.frames.fill.Tie as tie
+
+abbrev Inv-loop : tie.InvT-loop
+Inv-loop at f n out₀ j₀ out j = (j ≤ 8) × (out ≡ filled out₀ at f j)
+
+abbrev μ-loop : tie.MeasureT-loop
+μ-loop at f n out₀ j₀ out j = 8 - j
+
+carried-in-requires : tie.Need-carried-in-requires Inv-loop μ-loop
+carried-in-requires c κs = search needs
+
+loop-holds : tie.Need-loop-holds Inv-loop μ-loop
+loop-holds c = (omega arith, refl)
+
+add-i : tie.Need-add-i Inv-loop μ-loop
+add-i c = search needs
+
+cast-i : tie.Need-cast-i Inv-loop μ-loop
+cast-i c = search needs
+
+add-i-2 : tie.Need-add-i-2 Inv-loop μ-loop
+add-i-2 c = search needs
+
+cast-byte : tie.Need-cast-byte Inv-loop μ-loop
+cast-byte c = search needs
+
+element-copy-out-byte : tie.Need-element-copy-out-byte Inv-loop μ-loop
+element-copy-out-byte c = search needs
+
+array-read-old : tie.Need-array-read-old Inv-loop μ-loop
+array-read-old c = search needs
+
+choose-requires : tie.Need-choose-requires Inv-loop μ-loop
+choose-requires c κs = search needs
+
+array-write-out : tie.Need-array-write-out Inv-loop μ-loop
+array-write-out c = search needs
+
+add-j : tie.Need-add-j Inv-loop μ-loop
+add-j c = search needs
+
+loop-less : tie.Need-loop-less Inv-loop μ-loop
+loop-less c = search needs
+
+loop-again : tie.Need-loop-again Inv-loop μ-loop
+loop-again c =
+    (omega arith, simp (add-one, c .choose .ensures, c .before .before .before .before .carried-in .ensures, sym (c .before .before .before .loop .inv .1)))
+
+returns : tie.Need-returns Inv-loop μ-loop
+returns c =
+    let e : c .before .loop .j ≡ 8 = omega arith in
+    rw e at (c .before .loop .inv .1)
+
+pub fill-spec : {M : Type 1} → statement M
+fill-spec =
+    tie.close
+    (tie.spec
+    Inv-loop
+    μ-loop
+    carried-in-requires
+    loop-holds
+    add-i
+    cast-i
+    add-i-2
+    cast-byte
+    element-copy-out-byte
+    array-read-old
+    choose-requires
+    array-write-out
+    add-j
+    loop-less
+    loop-again
+    returns)

@@ -1,0 +1,15 @@
+use borrow.Author.Needs.{needs}
+use Rattle.receiving.proofs.verdicts.store1.Statement.{statement}
+use Rattle.receiving.proofs.verdicts.store1.Tie as tie
+
+hit-bits-requires : tie.Need-hit-bits-requires
+hit-bits-requires c κs = search needs
+
+merge-requires : tie.Need-merge-requires
+merge-requires c κs = search needs
+
+returns : tie.Need-returns
+returns c = simp (c .merge .ensures, c .before .hit-bits .ensures)
+
+pub store1-spec : {M : Type 1} → statement M
+store1-spec = tie.close (tie.spec hit-bits-requires merge-requires returns)
