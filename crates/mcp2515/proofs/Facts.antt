@@ -10,9 +10,9 @@ use Rattle.registers.specs.declared.TxBuffer.the-variants.{Txb0, Txb1, Txb2}
 use Rattle.registers.specs.declared.Core.{Core}
 use Rattle.registers.specs.Registers.{powerOnCore, reads}
 use Rattle.controller.specs.Events.{settledCore, eventOf}
-use Rattle.mcp2515.specs.declared.Act.{Act}
-use Rattle.mcp2515.specs.declared.Act.the-variants.{Store}
-use Rattle.mcp2515.specs.Instructions.{acted}
+use Rattle.spi.specs.declared.Act.{Act}
+use Rattle.spi.specs.declared.Act.the-variants.{Store}
+use Rattle.spi.specs.Instructions.{acted}
 use Rattle.mcp2515.specs.Moments.{isFull, isFree}
 
 -- The invariant of reached chips: no mode request can be carried out.

@@ -1,1 +1,13 @@
 pub mod Facts
+pub mod CoreSettle
+pub mod CoreKept
+pub mod CoreRegions
+pub mod CoreBytes
+pub mod CoreLaws
+pub mod Swap
+pub mod Session
+pub mod Demand3
+pub mod Order
+pub mod Refused
+pub mod Cases
+pub mod Examples

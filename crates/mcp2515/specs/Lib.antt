@@ -1,3 +1,4 @@
-pub mod Instructions
 pub mod Step
 pub mod Moments
+pub mod Promise
+pub mod Cases

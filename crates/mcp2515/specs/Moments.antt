@@ -16,10 +16,10 @@ use Rattle.registers.specs.declared.TxBuffer.{TxBuffer}
 use Rattle.registers.specs.declared.Core.{Core}
 use Rattle.registers.specs.State.{rxFlag}
 use Rattle.registers.specs.Store.{isLocked}
-use Rattle.mcp2515.specs.declared.Command.{Command}
-use Rattle.mcp2515.specs.declared.Command.the-variants.{Reset, Read, Write, BitModify, ReadRxBuffer, LoadTxBuffer, Rts, ReadStatus, RxStatus, UnknownCode}
+use Rattle.spi.specs.declared.Command.{Command}
+use Rattle.spi.specs.declared.Command.the-variants.{Reset, Read, Write, BitModify, ReadRxBuffer, LoadTxBuffer, Rts, ReadStatus, RxStatus, UnknownCode}
 use Rattle.mcp2515.specs.declared.Chip.{Chip}
-use Rattle.mcp2515.specs.Instructions.{commandOf}
+use Rattle.spi.specs.Instructions.{commandOf}
 use Rattle.mcp2515.specs.Step.{powerOn, Outcome, nextChip, outcome, chipAfter, outcomes}
 
 -- ---- what a record is in a run

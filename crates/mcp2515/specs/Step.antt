@@ -9,15 +9,15 @@ use Rattle.records.specs.Records.{refusedSelect, refusedField, byteAt, kindOf, 
 use Rattle.registers.specs.declared.Core.{Core}
 use Rattle.registers.specs.Registers.{powerOnCore}
 use Rattle.controller.specs.Events.{eventOf}
-use Rattle.mcp2515.specs.declared.Instruction.{Instruction}
-use Rattle.mcp2515.specs.declared.Instruction.the-variants.{First}
+use Rattle.spi.specs.declared.Instruction.{Instruction}
+use Rattle.spi.specs.declared.Instruction.the-variants.{First}
 use Rattle.mcp2515.specs.declared.Select.{Select}
 use Rattle.mcp2515.specs.declared.Select.the-variants.{Raised, Lowered}
-use Rattle.mcp2515.specs.declared.Act.{Act}
-use Rattle.mcp2515.specs.declared.Act.the-variants.{Rest, Refuse}
+use Rattle.spi.specs.declared.Act.{Act}
+use Rattle.spi.specs.declared.Act.the-variants.{Rest, Refuse}
 use Rattle.mcp2515.specs.declared.Chip.{Chip}
 use Rattle.mcp2515.specs.declared.Stepped.{Stepped}
-use Rattle.mcp2515.specs.Instructions.{exchangeAct, exchangeNext, highAct, replyTo, acted, refusalOf}
+use Rattle.spi.specs.Instructions.{exchangeAct, exchangeNext, highAct, replyTo, acted, refusalOf}
 
 -- power-on has select high
 unfoldable pub powerOn : Chip

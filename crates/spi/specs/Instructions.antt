@@ -15,21 +15,18 @@ use Rattle.registers.specs.State.{RX0IF, RX1IF, TX0IF, TX1IF, TX2IF, TXREQ, RXR
 use Rattle.registers.specs.Registers.{reads, resetCore}
 use Rattle.registers.specs.Store.{stored, modified, requestedToSend}
 use Rattle.controller.specs.Events.{settledCore}
-use Rattle.mcp2515.specs.declared.Command.{Command}
-use Rattle.mcp2515.specs.declared.Command.the-variants.{Reset, Read, Write, BitModify, ReadRxBuffer, LoadTxBuffer, Rts, ReadStatus, RxStatus, UnknownCode}
-use Rattle.mcp2515.specs.declared.Instruction.{Instruction}
-use Rattle.mcp2515.specs.declared.Instruction.the-variants.{First, ReadAddress, Reading, WriteAddress, Writing, ModifyAddress, ModifyMask, ModifyData, ReadingBuffer, StatusReply, RxStatusReply, Done}
-use Rattle.mcp2515.specs.declared.Act.{Act}
-use Rattle.mcp2515.specs.declared.Act.the-variants.{Rest, ResetAll, Fetch, Store, Modify, RequestToSend, ClearFlag, FetchStatus, FetchRxStatus, Refuse}
+use Rattle.spi.specs.declared.Command.{Command}
+use Rattle.spi.specs.declared.Command.the-variants.{Reset, Read, Write, BitModify, ReadRxBuffer, LoadTxBuffer, Rts, ReadStatus, RxStatus, UnknownCode}
+use Rattle.spi.specs.declared.Instruction.{Instruction}
+use Rattle.spi.specs.declared.Instruction.the-variants.{First, ReadAddress, Reading, WriteAddress, Writing, ModifyAddress, ModifyMask, ModifyData, ReadingBuffer, StatusReply, RxStatusReply, Done}
+use Rattle.spi.specs.declared.Act.{Act}
+use Rattle.spi.specs.declared.Act.the-variants.{Rest, ResetAll, Fetch, Store, Modify, RequestToSend, ClearFlag, FetchStatus, FetchRxStatus, Refuse}
 
 -- ---- the codes
-unfoldable pub commandOf : ℕ → Command
-commandOf b =
-    cond (eqb b 0xC0) Reset
-    (cond (eqb b 0x03) Read
-    (cond (eqb b 0x02) Write
-    (cond (eqb b 0x05) BitModify
-    (cond (eqb b 0x90) (ReadRxBuffer Rxb0 0x61)
+-- READ RX BUFFER from 61, 66, 71, 76h; LOAD TX BUFFER from 31, 36, 41, 46, 51, 56h
+unfoldable pub bufferCommand : ℕ → Command
+bufferCommand b =
+    cond (eqb b 0x90) (ReadRxBuffer Rxb0 0x61)
     (cond (eqb b 0x92) (ReadRxBuffer Rxb0 0x66)
     (cond (eqb b 0x94) (ReadRxBuffer Rxb1 0x71)
     (cond (eqb b 0x96) (ReadRxBuffer Rxb1 0x76)
@@ -38,10 +35,18 @@ commandOf b =
     (cond (eqb b 0x42) (LoadTxBuffer Txb1 0x41)
     (cond (eqb b 0x43) (LoadTxBuffer Txb1 0x46)
     (cond (eqb b 0x44) (LoadTxBuffer Txb2 0x51)
-    (cond (eqb b 0x45) (LoadTxBuffer Txb2 0x56)
+    (cond (eqb b 0x45) (LoadTxBuffer Txb2 0x56) UnknownCode)))))))))
+
+-- 80h plus bits 0-2 is RTS for TXB0-2
+unfoldable pub commandOf : ℕ → Command
+commandOf b =
+    cond (eqb (b / 8) 16) (Rts (b % 8))
+    (cond (eqb b 0xC0) Reset
+    (cond (eqb b 0x03) Read
+    (cond (eqb b 0x02) Write
+    (cond (eqb b 0x05) BitModify
     (cond (eqb b 0xA0) ReadStatus
-    (cond (eqb b 0xB0) RxStatus
-    (cond (eqb (b / 8) 16) (Rts (b % 8)) UnknownCode))))))))))))))))
+    (cond (eqb b 0xB0) RxStatus (bufferCommand b)))))))
 
 -- ---- the first byte: RESET and RTS act on it
 abbrev pub firstAct : Command → Act

@@ -1,0 +1,35 @@
+/*
+ * Fixed cases with answers worked out by hand from the rules. Each starts at
+ * power-on and leaves select high, so that they can follow one another with a
+ * RESET between.
+ */
+#ifndef BENCH_CASES_H
+#define BENCH_CASES_H
+
+#include <stddef.h>
+
+#include "script.h"
+
+struct fixed_case {
+    const char *name;
+    void (*write)(struct script *s);
+};
+
+struct case_group {
+    const struct fixed_case *cases;
+    size_t count;
+};
+
+/* Tables of cases_marked.c, cases_spi.c and cases_bus.c. */
+extern const struct case_group marked_cases; /* W1 to W12, bench errors, refusals */
+extern const struct case_group spi_cases;    /* registers and instructions */
+extern const struct case_group bus_cases;    /* receiving, sending, modes, errors */
+
+/* All tables one after another. */
+size_t case_count(void);
+const struct fixed_case *case_at(size_t i);
+
+/* Shared steps. */
+void case_errors(struct script *s, unsigned buffer, unsigned count); /* idle, own frame in error */
+
+#endif

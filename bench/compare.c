@@ -1,0 +1,363 @@
+/*
+ * The proved whole-log call against the second model: fixed cases, the
+ * whole-log rule, random logs of every sort, and the tidied list seen from
+ * outside. The first difference ends the run with status 1.
+ *
+ *   compare [records [seed]]
+ */
+#define _DEFAULT_SOURCE
+#include <stdio.h>
+#include <stdlib.h>
+#include <string.h>
+#include <sys/mman.h>
+#include <unistd.h>
+
+#include "cases.h"
+#include "gen.h"
+#include "mcp2515.h"
+#include "model.h"
+#include "registers.h"
+#include "script.h"
+#include "tidy.h"
+
+enum {
+    DEFAULT_RECORDS = 3500000,
+    DEFAULT_SEED = 2515,
+    LONGEST = LOG_RECORDS_MAX + 4, /* some logs are too long on purpose */
+    LOG_BYTES = LONGEST * RECORD_BYTES + RECORD_BYTES,
+    ANSWER_BYTES = 2 * LONGEST + 256,
+    GUARD_BYTES = 64,
+    GUARD = 0xA5
+};
+
+static unsigned long long seed_given, seed_of_log;
+static unsigned long long logs_run, records_run;
+
+static void stop(const char *what)
+{
+    printf("DIFFERENCE: %s\nseed %llu, log seed %llu\n", what, seed_given, seed_of_log);
+    exit(1);
+}
+
+/* ---- buffers that end at memory without access ---- */
+
+struct fence {
+    uint8_t *base;
+    size_t size; /* usable bytes, a multiple of the page */
+};
+
+static struct fence log_fence, answer_fence;
+
+static struct fence new_fence(size_t least)
+{
+    size_t page = (size_t)sysconf(_SC_PAGESIZE);
+    size_t size = (least + page - 1) / page * page;
+    uint8_t *all = mmap(NULL, size + 2 * page, PROT_NONE, MAP_PRIVATE | MAP_ANONYMOUS, -1, 0);
+    if (all == MAP_FAILED || mprotect(all + page, size, PROT_READ | PROT_WRITE) != 0) {
+        perror("memory");
+        exit(1);
+    }
+    return (struct fence){all + page, size};
+}
+
+/* length bytes that end short of the fence by gap bytes. */
+static uint8_t *at_fence(const struct fence *f, size_t length, size_t gap)
+{
+    return f->base + f->size - gap - length;
+}
+
+/* ---- the call, with everything around it watched ---- */
+
+struct call {
+    int64_t result;
+    const uint8_t *answers; /* valid until the next call */
+};
+
+static void check_guard(const uint8_t *bytes, size_t length, const char *where)
+{
+    for (size_t i = 0; i < length; i++)
+        if (bytes[i] != GUARD) {
+            printf("byte %zu %s was changed to %02Xh\n", i, where, bytes[i]);
+            stop("a byte outside the answers was written");
+        }
+}
+
+/* The call may write two bytes a record if it succeeds, and nothing else.
+ * variation moves the buffers against their fences. */
+static struct call watched_call(const uint8_t *log, size_t log_len, size_t answers_len,
+                                unsigned variation)
+{
+    size_t gap = variation & 1 ? GUARD_BYTES : 0;
+    uint8_t *lent = at_fence(&log_fence, log_len, variation & 2 ? variation >> 2 & 15 : 0);
+    uint8_t *answers = at_fence(&answer_fence, answers_len, gap);
+    struct call c;
+    if (log_len)
+        memcpy(lent, log, log_len);
+    memset(answers - GUARD_BYTES, GUARD, GUARD_BYTES + answers_len + gap);
+    c.result = mcp2515_run_log(lent, log_len, answers, answers_len);
+    c.answers = answers;
+    size_t written = c.result > 0 ? 2 * (size_t)c.result : 0;
+    if (written > answers_len)
+        stop("more records answered than there is room for");
+    check_guard(answers - GUARD_BYTES, GUARD_BYTES, "before the answers");
+    check_guard(answers + written, answers_len + gap - written, "past the answers");
+    if (log_len && memcmp(lent, log, log_len) != 0)
+        stop("the log was changed");
+    logs_run++;
+    return c;
+}
+
+static void print_record(const uint8_t *record)
+{
+    printf("record bytes:");
+    for (unsigned i = 0; i < RECORD_BYTES; i++)
+        printf(" %02X", record[i]);
+    printf("\n");
+}
+
+static void stop_at_record(const char *what, const uint8_t *log, size_t i, const uint8_t *want,
+                           const uint8_t *got)
+{
+    printf("record %zu: expected refusal %u answer %u, the call gave %u %u\n", i + 1, want[0],
+           want[1], got[0], got[1]);
+    print_record(log + RECORD_BYTES * i);
+    stop(what);
+}
+
+/* Runs a log by both and compares; model_answers gets the model's answers. */
+static struct call compare_log(const uint8_t *log, size_t log_len, size_t answers_len,
+                               unsigned variation, uint8_t *model_answers)
+{
+    long want = model_run_log(log, log_len, model_answers, answers_len);
+    struct call c = watched_call(log, log_len, answers_len, variation);
+    if (c.result != want) {
+        printf("log of %zu bytes, answers of %zu: expected %ld, got %lld\n", log_len, answers_len,
+               want, (long long)c.result);
+        stop("result of the call");
+    }
+    for (long i = 0; i < want; i++)
+        if (memcmp(model_answers + 2 * i, c.answers + 2 * i, 2) != 0)
+            stop_at_record("the call and the model disagree", log, (size_t)i,
+                           model_answers + 2 * i, c.answers + 2 * i);
+    if (want > 0)
+        records_run += (unsigned long long)want;
+    return c;
+}
+
+/* ---- fixed cases, by their own expectations ---- */
+
+static void check_case(const char *name, const struct script *s)
+{
+    struct call c = watched_call(s->records, RECORD_BYTES * s->count, 2 * s->count, 0);
+    if (c.result != (int64_t)s->count)
+        stop(name);
+    for (size_t i = 0; i < s->count; i++) {
+        const struct script_want *want = &s->want[i];
+        uint8_t pair[2] = {want->refusal, want->answer};
+        if (memcmp(pair, c.answers + 2 * i, 2) != 0) {
+            printf("%s:%d: %s\n", want->file, want->line, name);
+            stop_at_record("a fixed case", s->records, i, pair, c.answers + 2 * i);
+        }
+    }
+    records_run += s->count;
+}
+
+static void check_cases(void)
+{
+    struct script s;
+    script_init(&s);
+    for (size_t i = 0; i < case_count(); i++) {
+        script_clear(&s);
+        case_at(i)->write(&s);
+        check_case(case_at(i)->name, &s);
+    }
+    script_free(&s);
+}
+
+/* ---- whole-log rule ---- */
+
+static void expect_result(int64_t want, int64_t got, const char *what)
+{
+    if (want == got)
+        return;
+    printf("%s: expected %lld, got %lld\n", what, (long long)want, (long long)got);
+    stop("whole-log rule");
+}
+
+static void check_whole_log_rule(uint8_t *log, uint8_t *model_answers)
+{
+    enum { MOST = LOG_RECORDS_MAX };
+    static const struct {
+        size_t log_len, answers_len;
+        int want;
+    } rule[] = {
+        {0, 0, 0},
+        {0, 40, 0},
+        {1, 40, -6},
+        {15, 0, -6},
+        {RECORD_BYTES, 2, 1},
+        {RECORD_BYTES, 1, -7},
+        {RECORD_BYTES, 0, -7},
+        {RECORD_BYTES + 1, 0, -6},
+        {100 * RECORD_BYTES, 199, -7},
+        {100 * RECORD_BYTES, 200, 100},
+        {MOST * RECORD_BYTES, 2 * MOST, MOST},
+        {MOST * RECORD_BYTES, 2 * MOST - 1, -7},
+        {MOST * RECORD_BYTES + 5, 2 * MOST, -6},
+        {(MOST + 1) * RECORD_BYTES, 2 * MOST + 2, -8},
+        {(MOST + 1) * RECORD_BYTES, 0, -8},
+        {(MOST + 1) * RECORD_BYTES + 1, 2 * MOST + 2, -6},
+        {(MOST + 1) * RECORD_BYTES + 1, 0, -6},
+        {(MOST + 3) * RECORD_BYTES, 3, -8},
+    };
+    gen_log(GEN_MIXED, seed_given, log, LONGEST);
+    for (size_t i = 0; i < sizeof rule / sizeof *rule; i++)
+        for (unsigned variation = 0; variation < 4; variation++)
+            expect_result(rule[i].want,
+                          compare_log(log, rule[i].log_len, rule[i].answers_len, variation,
+                                      model_answers)
+                              .result,
+                          "log and answer lengths");
+    expect_result(0, mcp2515_run_log(NULL, 0, NULL, 0), "no buffers, no lengths");
+    expect_result(0, mcp2515_run_log(NULL, 0, model_answers, 10), "no log");
+    expect_result(0, mcp2515_run_log(log, 0, NULL, 0), "no answers, no records");
+    expect_result(-7, mcp2515_run_log(log, RECORD_BYTES, NULL, 0), "no answers, one record");
+    expect_result(-6, mcp2515_run_log(log, 3, NULL, 0), "no answers, ragged log");
+}
+
+/* ---- random logs ---- */
+
+static unsigned below(uint64_t *state, unsigned n)
+{
+    return (unsigned)((gen_next(state) >> 33) % n);
+}
+
+static size_t some_length(uint64_t *state)
+{
+    unsigned pick = below(state, 100);
+    if (pick < 2)
+        return LOG_RECORDS_MAX - below(state, 3);
+    if (pick < 30)
+        return 1000 + below(state, 4000);
+    if (pick < 60)
+        return 60 + below(state, 1000);
+    return below(state, 60);
+}
+
+static void some_log(uint64_t *state, uint8_t *log, size_t records)
+{
+    unsigned pick = below(state, 100);
+    seed_of_log = gen_next(state);
+    if (pick < 8)
+        gen_noise(seed_of_log, log, RECORD_BYTES * records);
+    else
+        gen_log(pick < 16 ? GEN_QUIET : pick < 24 ? GEN_BUSY : GEN_MIXED, seed_of_log, log,
+                records);
+    if (pick >= 84)
+        gen_damage(seed_of_log, log, records);
+}
+
+static void check_random(uint64_t *state, unsigned long long records, uint8_t *log,
+                         uint8_t *model_answers)
+{
+    unsigned long long until = records_run + records;
+    while (records_run < until) {
+        size_t length = some_length(state);
+        size_t log_len = RECORD_BYTES * length;
+        size_t answers_len = 2 * length + below(state, 40);
+        unsigned pick = below(state, 100);
+        some_log(state, log, length);
+        if (pick < 6) { /* ragged: bytes that are no record any more */
+            gen_noise(seed_of_log, log + log_len, RECORD_BYTES);
+            log_len += 1 + below(state, 15);
+        } else if (pick < 10 && length > 0) {
+            answers_len = below(state, (unsigned)(2 * length));
+        }
+        compare_log(log, log_len, answers_len, below(state, 64), model_answers);
+    }
+}
+
+/* ---- the tidied list ---- */
+
+/* Records that make the end state show in the answers: every register, the
+ * statuses, a flight, and after ABAT and Configuration the filters. */
+static void end_probe(struct script *s)
+{
+    script_clear(s);
+    for (unsigned round = 0; round < 2; round++) {
+        sc_high(s); /* ends a session that was left open, or is refused */
+        sc_low(s);
+        sc_xfer(s, SPI_READ, 0);
+        sc_xfer(s, 0, 0);
+        for (unsigned i = 0; i < 128; i++)
+            sc_xfer(s, 0, 0);
+        sc_high(s);
+        sc_status(s, 0);
+        sc_rx_status(s, 0);
+        sc_idle(s, 0);
+        sc_end(s, END_SENT, 0);
+        sc_write(s, CANCTRL, 0x80 | ABAT);
+    }
+}
+
+static void check_map(const uint8_t *log, size_t records, const size_t *map,
+                      const uint8_t *as_came, const uint8_t *in_order)
+{
+    for (size_t i = 0; i < records; i++)
+        if (memcmp(as_came + 2 * map[i], in_order + 2 * i, 2) != 0) {
+            printf("tidied place %zu\n", i + 1);
+            stop_at_record("the tidied list answers otherwise", log, map[i], as_came + 2 * map[i],
+                           in_order + 2 * i);
+        }
+}
+
+static void check_tidied(uint64_t *state, unsigned long long records, uint8_t *log,
+                         uint8_t *model_answers, struct tidy_tally *tally)
+{
+    enum { MOST = 6000 };
+    unsigned long long until = records_run + records;
+    uint8_t *tidied = malloc(RECORD_BYTES * MOST), *as_came = malloc(2 * MOST);
+    size_t *map = malloc(MOST * sizeof *map);
+    struct script probe;
+    script_init(&probe);
+    end_probe(&probe);
+    while (records_run < until) {
+        size_t length = below(state, 3) ? below(state, 100) : below(state, MOST - 1000);
+        some_log(state, log, length);
+        memcpy(log + RECORD_BYTES * length, probe.records, RECORD_BYTES * probe.count);
+        length += probe.count;
+        tidy_log(log, length, tidied, map, tally);
+        struct call c = compare_log(log, RECORD_BYTES * length, 2 * length, 0, model_answers);
+        memcpy(as_came, c.answers, 2 * length);
+        c = compare_log(tidied, RECORD_BYTES * length, 2 * length, 0, model_answers);
+        check_map(log, length, map, as_came, c.answers);
+    }
+    script_free(&probe);
+    free(tidied);
+    free(as_came);
+    free(map);
+}
+
+int main(int argc, char **argv)
+{
+    unsigned long long records = argc > 1 ? strtoull(argv[1], NULL, 0) : DEFAULT_RECORDS;
+    seed_given = argc > 2 ? strtoull(argv[2], NULL, 0) : DEFAULT_SEED;
+    uint64_t state = seed_given;
+    struct tidy_tally tally = {0};
+    uint8_t *log = malloc(LOG_BYTES), *model_answers = malloc(ANSWER_BYTES);
+    log_fence = new_fence(LOG_BYTES);
+    answer_fence = new_fence(ANSWER_BYTES + 2 * GUARD_BYTES);
+    setvbuf(stdout, NULL, _IOLBF, 0); /* the seed has to show even if the call crashes */
+    printf("comparing %llu random records, seed %llu\n", records, seed_given);
+    check_cases();
+    check_whole_log_rule(log, model_answers);
+    check_random(&state, records, log, model_answers);
+    printf("as they came: %llu logs, %llu records\n", logs_run, records_run);
+    check_tidied(&state, records / 2, log, model_answers, &tally);
+    printf("with the tidied lists: %llu logs, %llu records\n", logs_run, records_run);
+    printf("events moved: %lu before, %lu after\n", tally.events_before, tally.events_after);
+    free(log);
+    free(model_answers);
+    printf("no difference\n");
+    return 0;
+}

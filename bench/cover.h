@@ -1,0 +1,119 @@
+/*
+ * Counts what random logs really reach, so that a test can demand that none
+ * of it is missing.
+ */
+#ifndef BENCH_COVER_H
+#define BENCH_COVER_H
+
+#include <stddef.h>
+#include <stdint.h>
+
+#include "model.h"
+
+#define COVER_LIST(X)                                           \
+    X(REFUSAL_1_LOW, "select low refused")                      \
+    X(REFUSAL_1_HIGH, "exchange or select high refused")        \
+    X(REFUSAL_2_KIND, "unknown kind")                           \
+    X(REFUSAL_2_SPI, "damaged select or exchange")              \
+    X(REFUSAL_2_FRAME, "damaged frame")                         \
+    X(REFUSAL_2_EVENT, "other damaged event")                   \
+    X(REFUSAL_3_FRAME, "frame during a flight")                 \
+    X(REFUSAL_3_IDLE, "bus idle during a flight")               \
+    X(REFUSAL_3_ERROR, "receive error during a flight")         \
+    X(REFUSAL_4, "frame end without a flight")                  \
+    X(REFUSAL_5_LOOPBACK, "failure in Loopback")                \
+    X(REFUSAL_5_RECOVERY, "recovery without bus-off")           \
+    X(REFUSED_IN_SESSION, "refused record inside a session")    \
+    X(FRAME_0, "frame unmatched")                               \
+    X(FRAME_1, "frame in RXB0")                                 \
+    X(FRAME_2, "frame in RXB1")                                 \
+    X(FRAME_3, "frame lost")                                    \
+    X(FRAME_4, "frame not listened to")                         \
+    X(FRAME_5, "frame woke")                                    \
+    X(LOOP_0, "own frame unmatched in Loopback")                \
+    X(LOOP_1, "own frame in RXB0")                              \
+    X(LOOP_2, "own frame in RXB1")                              \
+    X(LOOP_3, "own frame lost")                                 \
+    X(LOST_NO_BUKT, "lost at RXB0 with BUKT clear")             \
+    X(LOST_BUKT, "lost with BUKT set")                          \
+    X(LOST_RXB1, "lost at RXB1's own filters")                  \
+    X(ROLLED, "rolled over into RXB1")                          \
+    X(HIT_0, "RXF0 hit")                                        \
+    X(HIT_1, "RXF1 hit")                                        \
+    X(HIT_2, "RXF2 hit")                                        \
+    X(HIT_3, "RXF3 hit")                                        \
+    X(HIT_4, "RXF4 hit")                                        \
+    X(HIT_5, "RXF5 hit")                                        \
+    X(RXM_RXB0, "RXM 11 took a frame for RXB0")                 \
+    X(RXM_RXB1, "RXM 11 took a frame for RXB1")                 \
+    X(STORED_STANDARD_REMOTE, "standard remote frame stored")   \
+    X(STORED_EXTENDED_REMOTE, "extended remote frame stored")   \
+    X(STORED_EXTENDED, "extended data frame stored")            \
+    X(IDLE_0, "TXB0 goes")                                      \
+    X(IDLE_1, "TXB1 goes")                                      \
+    X(IDLE_2, "TXB2 goes")                                      \
+    X(IDLE_NONE, "nothing goes")                                \
+    X(IDLE_TIE, "equal TXP at bus idle")                        \
+    X(IDLE_TXP, "TXP beats the buffer number")                  \
+    X(IDLE_BUS_OFF, "bus idle with TXREQ in bus-off")           \
+    X(SENT_NORMAL, "sent in Normal")                            \
+    X(END_LOST_NORMAL, "arbitration lost")                      \
+    X(END_ERROR_NORMAL, "transmit error")                       \
+    X(END_OSM, "failed under OSM")                              \
+    X(END_ABAT, "failed under ABAT")                            \
+    X(END_NO_RETRY, "failed after TXREQ was cleared")           \
+    X(LONG_DLC, "length code 9 to 15 in Loopback")              \
+    X(ABAT_CLEARS, "ABAT cleared a TXREQ")                      \
+    X(ABAT_BARS, "RTS under ABAT")                              \
+    X(MODE_0, "Normal entered")                                 \
+    X(MODE_1, "Sleep entered")                                  \
+    X(MODE_2, "Loopback entered")                               \
+    X(MODE_3, "Listen-Only entered")                            \
+    X(MODE_4, "Configuration entered")                          \
+    X(REQUEST_WAITS, "mode request waits")                      \
+    X(REQUEST_CANCELLED, "mode request cancelled")              \
+    X(REQUEST_AT_END, "mode changed at a frame's end")          \
+    X(SENT_UNDER_REQUEST, "bus idle sends under a request")     \
+    X(WARNING_TX, "TEC reaches 96")                             \
+    X(WARNING_RX, "REC reaches 96")                             \
+    X(PASSIVE_RX, "REC reaches 128")                            \
+    X(REC_TO_127, "REC falls to 127")                           \
+    X(REC_STOPS, "REC stops at 255")                            \
+    X(BUS_OFF, "bus-off reached")                               \
+    X(BUS_OFF_STOP, "TEC stops at 263")                         \
+    X(BUS_OFF_ELSEWHERE, "bus-off in Sleep or Loopback")        \
+    X(BUS_OFF_WOKE, "woke out of bus-off")                      \
+    X(RECOVERED, "recovery")                                    \
+    X(WRITE_CLOSED, "filter or CNF write outside Configuration")\
+    X(WRITE_LOCKED, "TX byte write under TXREQ or flight")      \
+    X(WRITE_WRAPS, "WRITE passes 7Fh")                          \
+    X(READ_WRAPS, "READ passes 7Fh")                            \
+    X(CANCTRL_IN_RUN, "WRITE run stores CANCTRL")               \
+    X(MODIFY_MASKED, "BIT MODIFY with a mask that counts")      \
+    X(MODIFY_FULL, "BIT MODIFY without mask")                   \
+    X(RESET_IN_FLIGHT, "RESET during a flight")                 \
+    X(READ_RX_CLEARS, "READ RX BUFFER cleared its flag")        \
+    X(EVENT_IN_SESSION, "accepted event inside a session")      \
+    X(ENDS_OPEN, "log ends in an open session")
+
+enum cover_point {
+#define COVER_ENUM(name, text) COVER_##name,
+    COVER_LIST(COVER_ENUM)
+#undef COVER_ENUM
+    COVER_POINTS
+};
+
+struct cover {
+    unsigned long count[COVER_POINTS];
+};
+
+extern const char *const cover_text[COVER_POINTS];
+
+/* One step: chips before and after, what the record gave. */
+void cover_step(struct cover *c, const struct model *before, const uint8_t *record,
+                uint8_t refusal, uint8_t answer, const struct model *after);
+
+/* Runs a whole log by the model, counting; returns the last chip. */
+struct model cover_log(struct cover *c, const uint8_t *log, size_t records);
+
+#endif

@@ -1,0 +1,648 @@
+#include "gen.h"
+
+#include <stdbool.h>
+#include <string.h>
+
+#include "registers.h"
+
+/* ---- random numbers ---- */
+
+uint64_t gen_next(uint64_t *state)
+{
+    uint64_t z = *state += 0x9E3779B97F4A7C15u;
+    z = (z ^ z >> 30) * 0xBF58476D1CE4E5B9u;
+    z = (z ^ z >> 27) * 0x94D049BB133111EBu;
+    return z ^ z >> 31;
+}
+
+static unsigned below(struct gen *g, unsigned n)
+{
+    return (unsigned)((gen_next(&g->state) >> 33) % n);
+}
+
+static bool chance(struct gen *g, unsigned of_256)
+{
+    return below(g, 256) < of_256;
+}
+
+static uint8_t any_byte(struct gen *g)
+{
+    return (uint8_t)below(g, 256);
+}
+
+#define PICK(g, list) ((list)[below((g), sizeof(list) / sizeof *(list))])
+
+/* ---- identifiers and data: few values, so that filters match ---- */
+
+static uint16_t some_sid(struct gen *g)
+{
+    static const uint16_t sids[] = {0x000, 0x001, 0x123, 0x124, 0x555, 0x7FF};
+    return chance(g, 8) ? (uint16_t)below(g, 0x800) : PICK(g, sids);
+}
+
+static uint32_t some_eid(struct gen *g)
+{
+    static const uint32_t eids[] = {0x00000, 0x00055, 0x15678, 0x3FFFF, 0x05500};
+    return chance(g, 8) ? below(g, 0x40000) : PICK(g, eids);
+}
+
+static uint8_t some_data(struct gen *g)
+{
+    static const uint8_t values[] = {0x00, 0x00, 0x55, 0x56, 0xFF};
+    return chance(g, 32) ? any_byte(g) : PICK(g, values);
+}
+
+static void id_bytes(struct gen *g, uint8_t out[4])
+{
+    uint16_t sid = some_sid(g);
+    uint32_t eid = some_eid(g);
+    out[RXF_SIDH] = (uint8_t)(sid >> 3);
+    out[RXF_SIDL] = (uint8_t)(sid << 5 | (chance(g, 100) ? IDE : 0) | eid >> 16);
+    out[RXF_EID8] = (uint8_t)(eid >> 8);
+    out[RXF_EID0] = (uint8_t)eid;
+}
+
+/* ---- bus events ---- */
+
+static void make_frame(struct gen *g, uint8_t *r)
+{
+    uint32_t id = some_sid(g);
+    r[0] = KIND_FRAME;
+    r[1] = chance(g, 100) ? FRAME_EXTENDED : 0;
+    if (r[1])
+        id = id << 18 | some_eid(g);
+    if (chance(g, 50))
+        r[1] |= FRAME_REMOTE;
+    r[2] = (uint8_t)below(g, 9);
+    for (unsigned i = 0; i < 4; i++)
+        r[4 + i] = (uint8_t)(id >> (24 - 8 * i));
+    for (unsigned i = 0; i < r[2] && !(r[1] & FRAME_REMOTE); i++)
+        r[8 + i] = some_data(g);
+}
+
+static bool any_txreq(const struct model *m)
+{
+    return ((m->reg[TXB0CTRL] | m->reg[TXB1CTRL] | m->reg[TXB2CTRL]) & TXREQ) != 0;
+}
+
+static void make_event(struct gen *g, uint8_t *r)
+{
+    const struct model *m = &g->chip;
+    if (m->flight != NO_FLIGHT && chance(g, 230)) {
+        r[0] = KIND_FRAME_ENDS;
+        if (chance(g, g->mix.failure) && (m->mode != MODE_LOOPBACK || chance(g, 20)))
+            r[1] = chance(g, 60) ? END_LOST : END_ERROR;
+    } else if (model_bus_off(m) && chance(g, 12)) {
+        r[0] = KIND_RECOVERY;
+    } else if (any_txreq(m) && !model_bus_off(m) ? chance(g, 140) : chance(g, 16)) {
+        r[0] = KIND_BUS_IDLE;
+    } else if (chance(g, m->mode == MODE_NORMAL ? g->mix.failure : 12)) {
+        r[0] = KIND_RECEIVE_ERROR;
+        r[1] = chance(g, 150) ? 1 : 0;
+    } else if (chance(g, 4)) {
+        r[0] = chance(g, 128) ? KIND_RECOVERY : KIND_FRAME_ENDS;
+    } else {
+        make_frame(g, r);
+    }
+}
+
+/* ---- records that are refused ---- */
+
+static void make_bad_frame(struct gen *g, uint8_t *r)
+{
+    make_frame(g, r);
+    switch (below(g, 4)) {
+    case 0: /* one above the highest identifier */
+        memset(r + 4, 0, 4);
+        r[r[1] & FRAME_EXTENDED ? 4 : 6] = r[1] & FRAME_EXTENDED ? 0x20 : 0x08;
+        break;
+    case 1:
+        r[1] |= FRAME_REMOTE;
+        r[8 + below(g, 8)] |= 1;
+        break;
+    case 2:
+        r[1] = (uint8_t)(4 + below(g, 252));
+        break;
+    default:
+        if (r[2] < 8)
+            r[15] = 1;
+        else
+            r[2] = 9;
+        break;
+    }
+}
+
+static void make_bad(struct gen *g, uint8_t *r)
+{
+    switch (below(g, 6)) {
+    case 0: /* select in the wrong state */
+        r[0] = g->chip.selected ? KIND_SELECT_LOW : chance(g, 128) ? KIND_EXCHANGE
+                                                                    : KIND_SELECT_HIGH;
+        break;
+    case 1:
+        r[0] = (uint8_t)(KINDS + below(g, 256 - KINDS));
+        break;
+    case 2:
+        make_bad_frame(g, r);
+        break;
+    case 3: /* a byte without a name */
+        r[0] = (uint8_t)below(g, KINDS);
+        r[2 + below(g, 14)] = (uint8_t)(1 + below(g, 255));
+        break;
+    case 4:
+        r[0] = chance(g, 128) ? KIND_FRAME_ENDS : KIND_RECEIVE_ERROR;
+        r[1] = (uint8_t)below(g, 6);
+        break;
+    default: /* an event at the wrong time, or just a rare one */
+        r[0] = (uint8_t)(KIND_FRAME + below(g, 5));
+        break;
+    }
+}
+
+/* ---- sessions ---- */
+
+static void add(struct gen *g, uint8_t byte)
+{
+    if (g->planned < sizeof g->plan)
+        g->plan[g->planned++] = byte;
+}
+
+static void add_random(struct gen *g, unsigned count)
+{
+    while (count-- > 0)
+        add(g, any_byte(g));
+}
+
+static void add_write(struct gen *g, uint8_t address, uint8_t value)
+{
+    g->changed = address;
+    add(g, SPI_WRITE);
+    add(g, address);
+    add(g, value);
+}
+
+static void add_modify(struct gen *g, uint8_t address, uint8_t mask, uint8_t data)
+{
+    g->changed = address;
+    add(g, SPI_BIT_MODIFY);
+    add(g, address);
+    add(g, mask);
+    add(g, data);
+}
+
+/* Half of them registers with a life of their own, sometimes above 7Fh. */
+static uint8_t some_address(struct gen *g)
+{
+    static const uint8_t lively[] = {BFPCTRL,  TXRTSCTRL, CANSTAT,  CANCTRL,  TEC,  REC,  CNF3,
+                                     CNF2,     CNF1,      CANINTE,  CANINTF,  EFLG, 0x35, TXB0CTRL,
+                                     TXB1CTRL, TXB2CTRL,  RXB0CTRL, RXB1CTRL, 0x62, 0x72};
+    uint8_t address = chance(g, 128) ? PICK(g, lively) : (uint8_t)below(g, 128);
+    return chance(g, 10) ? address | 0x80 : address;
+}
+
+/* An address to write at by chance. CANCTRL mostly not: its random modes
+ * would keep the chip from staying anywhere. */
+static uint8_t address_to_change(struct gen *g)
+{
+    uint8_t address = some_address(g);
+    if ((address & 0x0F) == CANCTRL && chance(g, 200))
+        address = TXB1CTRL;
+    return address;
+}
+
+static void plan_read(struct gen *g)
+{
+    unsigned replies = chance(g, 160) ? 1 : chance(g, 8) ? 140 : 2 + below(g, 20);
+    add(g, SPI_READ);
+    add(g, chance(g, 90) ? g->changed : some_address(g));
+    add_random(g, replies);
+}
+
+/* The counters, their flags and ERRIF. */
+static void plan_watch(struct gen *g)
+{
+    static const uint8_t places[] = {CANINTF, EFLG, EFLG, TEC, REC};
+    if (chance(g, 40)) {
+        add_write(g, CANINTF, 0);
+        return;
+    }
+    add(g, SPI_READ);
+    add(g, PICK(g, places));
+    add_random(g, 1 + below(g, 2));
+}
+
+static void plan_write(struct gen *g)
+{
+    add_write(g, address_to_change(g), any_byte(g));
+}
+
+/* Runs may pass CANSTAT and CANCTRL, and 7Fh to 00h. */
+static void plan_write_run(struct gen *g)
+{
+    static const uint8_t starts[] = {0x0C, 0x1A, 0x28, 0x2B, 0x30, 0x3C, 0x4D,
+                                     0x5E, 0x60, 0x6F, 0x7D, 0x7F, 0xFE};
+    unsigned bytes = 2 + below(g, 5);
+    uint8_t address = chance(g, 180) ? PICK(g, starts) : any_byte(g);
+    add(g, SPI_WRITE);
+    add(g, address);
+    for (unsigned i = 0; i < bytes; i++) {
+        bool canctrl = ((address + i) & 0x0F) == CANCTRL;
+        add(g, canctrl && chance(g, 200) ? (uint8_t)(g->mix.favoured << 5 | 7) : any_byte(g));
+    }
+}
+
+static void plan_modify(struct gen *g)
+{
+    add_modify(g, address_to_change(g), any_byte(g), any_byte(g));
+}
+
+static void plan_canctrl(struct gen *g)
+{
+    uint8_t mode = chance(g, 190) ? g->mix.favoured : (uint8_t)below(g, 8);
+    uint8_t value = (uint8_t)(mode << 5 | below(g, 8));
+    uint8_t address = (uint8_t)(CANCTRL | below(g, 8) << 4);
+    if (chance(g, 40))
+        value |= ABAT;
+    if (chance(g, 50))
+        value |= OSM;
+    if (chance(g, 128)) {
+        static const uint8_t masks[] = {0xE0, ABAT, OSM, 0x07, 0xFF, 0xF8, 0x00};
+        add_modify(g, address, PICK(g, masks), value);
+    } else {
+        add_write(g, address, value);
+    }
+}
+
+static void plan_filters(struct gen *g)
+{
+    static const uint8_t groups[] = {RXF0SIDH, RXF3SIDH, RXM0SIDH, RXM0SIDH};
+    uint8_t start = PICK(g, groups);
+    unsigned count = start == RXM0SIDH ? 2 : 1 + below(g, 3);
+    add(g, SPI_WRITE);
+    add(g, start);
+    for (unsigned i = 0; i < count; i++) {
+        static const uint8_t masks[][4] = {{0, 0, 0, 0},          {0xFF, 0xE3, 0xFF, 0xFF},
+                                           {0xFF, 0xE0, 0, 0},    {0xFF, 0xE3, 0, 0},
+                                           {0x01, 0x20, 0x01, 0}, {0xFF, 0xE3, 0xFF, 0}};
+        uint8_t bytes[4];
+        id_bytes(g, bytes);
+        const uint8_t *from = start == RXM0SIDH ? PICK(g, masks) : bytes;
+        for (unsigned j = 0; j < 4; j++)
+            add(g, from[j]);
+    }
+}
+
+static void plan_rxctrl(struct gen *g)
+{
+    uint8_t address = chance(g, 128) ? RXB0CTRL : RXB1CTRL;
+    uint8_t value = any_byte(g) & (BUKT | BUKT1 | RXRTR | FILHIT0);
+    if (chance(g, 50))
+        value |= RXM;
+    else if (chance(g, 50))
+        value |= chance(g, 128) ? 0x20 : 0x40;
+    if (chance(g, 128))
+        add_write(g, address, value);
+    else
+        add_modify(g, address, chance(g, 128) ? 0xFF : any_byte(g), value);
+}
+
+static void plan_flags(struct gen *g)
+{
+    uint8_t bit = (uint8_t)(1u << below(g, 8));
+    switch (below(g, 7)) {
+    case 0:
+        add_write(g, CANINTF, 0);
+        break;
+    case 1:
+    case 2:
+        add_modify(g, CANINTF, RX0IF | RX1IF, 0);
+        break;
+    case 3:
+        add_modify(g, CANINTF, bit, 0);
+        break;
+    case 4:
+        add_modify(g, CANINTF, bit, bit);
+        break;
+    case 5:
+        add_write(g, CANINTE, chance(g, 128) ? (uint8_t)(any_byte(g) | WAKIF) : any_byte(g));
+        break;
+    default:
+        add_write(g, EFLG, chance(g, 200) ? 0 : any_byte(g));
+        break;
+    }
+}
+
+static void plan_load(struct gen *g)
+{
+    unsigned which = below(g, 6);
+    add(g, (uint8_t)(SPI_LOAD_TX + which));
+    if (which % 2 == 0) {
+        uint8_t bytes[4];
+        id_bytes(g, bytes);
+        for (unsigned j = 0; j < 4; j++)
+            add(g, bytes[j]);
+        add(g, (uint8_t)(below(g, 16) | (chance(g, 60) ? RTR : 0) | (chance(g, 20) ? 0xB0 : 0)));
+    }
+    for (unsigned i = below(g, 9); i > 0; i--)
+        add(g, some_data(g));
+}
+
+static void plan_rts(struct gen *g)
+{
+    add(g, (uint8_t)(SPI_RTS | below(g, 8)));
+}
+
+static void plan_txctrl(struct gen *g)
+{
+    uint8_t address = (uint8_t)(TXB0CTRL + 0x10 * below(g, 3));
+    uint8_t value = (uint8_t)(below(g, 4) | (chance(g, 170) ? TXREQ : 0));
+    if (chance(g, 128))
+        add_write(g, address, value);
+    else
+        add_modify(g, address, chance(g, 128) ? TXREQ : any_byte(g), value);
+}
+
+/* What the firmware may do to a frame that is already on the bus. */
+static void plan_in_flight(struct gen *g)
+{
+    unsigned n = g->chip.flight % 3;
+    uint8_t ctrl = (uint8_t)(TXB0CTRL + 0x10 * n);
+    uint8_t canctrl = g->chip.reg[CANCTRL];
+    switch (below(g, 6)) {
+    case 0:
+    case 1:
+        add_modify(g, ctrl, TXREQ, 0);
+        break;
+    case 2:
+        add(g, (uint8_t)(SPI_RTS | 1u << n));
+        break;
+    case 3:
+        add_write(g, CANCTRL, canctrl ^ ABAT);
+        break;
+    case 4:
+        add_write(g, CANCTRL, canctrl ^ OSM);
+        break;
+    default:
+        add(g, (uint8_t)(SPI_LOAD_TX + 2 * n));
+        add_random(g, below(g, 6));
+        break;
+    }
+}
+
+/* Out of Normal by ABAT, since TXREQ would hold the mode in bus-off. */
+static void plan_bus_off(struct gen *g)
+{
+    uint8_t mode = chance(g, 170) ? MODE_SLEEP : MODE_LOOPBACK;
+    if (chance(g, 100))
+        add_write(g, CANINTE, 0xFF); /* so that a frame can wake it */
+    else
+        add_write(g, CANCTRL, (uint8_t)(mode << 5 | ABAT | 7));
+}
+
+static void plan_read_rx(struct gen *g)
+{
+    uint8_t flags = g->chip.reg[CANINTF];
+    unsigned which = below(g, 4);
+    if (chance(g, 200)) /* mostly of a full buffer */
+        which = (flags & RX0IF ? 0 : 2) + below(g, 2);
+    add(g, (uint8_t)(SPI_READ_RX + 2 * which));
+    add_random(g, below(g, which % 2 ? 9 : 14));
+}
+
+static void plan_status(struct gen *g)
+{
+    add(g, chance(g, 128) ? SPI_READ_STATUS : SPI_RX_STATUS);
+    add_random(g, chance(g, 200) ? 1 : below(g, 4));
+}
+
+static void plan_reset(struct gen *g)
+{
+    add(g, SPI_RESET);
+}
+
+static void plan_unknown(struct gen *g)
+{
+    static const uint8_t codes[] = {0x00, 0x01, 0x04, 0x06, 0x46, 0x47, 0x88, 0x8F,
+                                    0x91, 0x97, 0xA1, 0xB1, 0xC1, 0xE0, 0xFF};
+    add(g, PICK(g, codes));
+    if (chance(g, 60))
+        add_random(g, 1 + below(g, chance(g, 100) ? 20 : 3));
+}
+
+static void plan_wild(struct gen *g)
+{
+    add_random(g, below(g, 7));
+}
+
+enum {
+    PLAN_READ,
+    PLAN_WRITE,
+    PLAN_WRITE_RUN,
+    PLAN_MODIFY,
+    PLAN_CANCTRL,
+    PLAN_FILTERS,
+    PLAN_RXCTRL,
+    PLAN_FLAGS,
+    PLAN_LOAD,
+    PLAN_RTS,
+    PLAN_TXCTRL,
+    PLAN_READ_RX,
+    PLAN_STATUS,
+    PLAN_RESET,
+    PLAN_UNKNOWN,
+    PLAN_WILD,
+    PLAN_IN_FLIGHT,
+    PLAN_BUS_OFF,
+    PLAN_WATCH,
+    PLANS
+};
+
+static void (*const planners[PLANS])(struct gen *) = {
+    plan_read,   plan_write, plan_write_run, plan_modify, plan_canctrl,   plan_filters,
+    plan_rxctrl, plan_flags, plan_load,      plan_rts,    plan_txctrl,    plan_read_rx,
+    plan_status, plan_reset, plan_unknown,   plan_wild,   plan_in_flight, plan_bus_off,
+    plan_watch,
+};
+
+static const unsigned char weights[GEN_PROFILES][PLANS] = {
+    [GEN_MIXED] = {14, 6, 4, 8, 0, 2, 5, 14, 12, 10, 8, 12, 10, 1, 5, 3},
+    [GEN_QUIET] = {120, 4, 1, 6, 2, 1, 1, 6, 4, 3, 2, 8, 30, 0, 1, 1},
+    [GEN_BUSY] = {4, 1, 0, 1, 1, 1, 1, 8, 10, 10, 3, 20, 3, 0, 0, 0},
+};
+
+static bool at_limit(unsigned counter)
+{
+    return (counter > 93 && counter < 98) || (counter > 125 && counter < 130);
+}
+
+/* A counter next to a value where its flags change. */
+static bool near_limit(const struct model *m)
+{
+    return at_limit(m->tec) || at_limit(m->rec);
+}
+
+/* The weights of the profile, bent by what the chip could use now. */
+static void plan_session(struct gen *g)
+{
+    const struct model *m = &g->chip;
+    unsigned weight[PLANS], total = 0, i;
+    for (i = 0; i < PLANS; i++)
+        weight[i] = weights[g->profile][i];
+    weight[PLAN_CANCTRL] += m->mode == g->mix.favoured ? g->mix.mode_changes : 20u;
+    if (m->reg[CANCTRL] & ABAT)
+        weight[PLAN_CANCTRL] += 15;
+    if (m->mode == MODE_CONFIGURATION)
+        weight[PLAN_FILTERS] += 30;
+    if ((m->mode == MODE_NORMAL || m->mode == MODE_LOOPBACK) && !any_txreq(m))
+        weight[PLAN_RTS] += 15;
+    if (m->reg[CANINTF] & (RX0IF | RX1IF))
+        weight[PLAN_READ_RX] += 15;
+    if (m->flight != NO_FLIGHT)
+        weight[PLAN_IN_FLIGHT] = 30;
+    if (model_bus_off(m) && m->mode == MODE_NORMAL)
+        weight[PLAN_BUS_OFF] = 40;
+    if (near_limit(m))
+        weight[PLAN_WATCH] = 100;
+    for (i = 0; i < PLANS; i++)
+        total += weight[i];
+    unsigned at = below(g, total);
+    for (i = 0; at >= weight[i]; i++)
+        at -= weight[i];
+    g->planned = g->sent = 0;
+    planners[i](g);
+    if (chance(g, g->mix.overlong / 2)) /* a second instruction where none can start */
+        planners[below(g, PLANS)](g);
+}
+
+/* ---- records ---- */
+
+static void draw_mix(struct gen *g)
+{
+    static const uint8_t outside[] = {30, 120, 220}, inside[] = {0, 20, 60, 120},
+                         bad[] = {0, 6, 40}, cut[] = {0, 8, 40}, failure[] = {10, 80, 220, 250},
+                         favoured[] = {MODE_NORMAL, MODE_NORMAL, MODE_NORMAL, MODE_LOOPBACK,
+                                       MODE_LOOPBACK, MODE_SLEEP, MODE_LISTEN_ONLY,
+                                       MODE_CONFIGURATION},
+                         mode_changes[] = {1, 6, 30};
+    struct gen_mix *mix = &g->mix;
+    mix->event_outside = PICK(g, outside);
+    mix->event_inside = PICK(g, inside);
+    mix->bad = PICK(g, bad);
+    mix->cut = PICK(g, cut);
+    mix->overlong = PICK(g, cut);
+    mix->failure = PICK(g, failure);
+    mix->favoured = PICK(g, favoured);
+    mix->mode_changes = PICK(g, mode_changes);
+    if (mix->failure > 200 && chance(g, 160)) { /* long enough in Normal for bus-off */
+        mix->event_outside = 240;
+        mix->favoured = MODE_NORMAL;
+    }
+    g->mix_left = 60 + below(g, 500);
+}
+
+void gen_start(struct gen *g, enum gen_profile profile, uint64_t seed)
+{
+    static const struct gen_mix quiet = {12, 4, 2, 2, 2, 10, MODE_NORMAL, 1};
+    static const struct gen_mix busy = {235, 20, 1, 1, 1, 20, MODE_NORMAL, 1};
+    memset(g, 0, sizeof *g);
+    g->state = seed;
+    g->profile = profile;
+    model_power_on(&g->chip);
+    if (profile == GEN_MIXED)
+        draw_mix(g);
+    else
+        g->mix = profile == GEN_QUIET ? quiet : busy;
+}
+
+/* Fewer events where they would change nothing, or only lose frames. */
+static unsigned event_chance(const struct gen *g, unsigned usual)
+{
+    const struct model *m = &g->chip;
+    if (g->profile == GEN_BUSY && m->mode != MODE_CONFIGURATION)
+        return usual;
+    if (near_limit(m))
+        return usual / 2;
+    if (m->flight != NO_FLIGHT || (m->mode == MODE_NORMAL && any_txreq(m)))
+        return usual;
+    if (m->mode == MODE_CONFIGURATION || (m->mode == MODE_LOOPBACK && !any_txreq(m)))
+        return usual / 6;
+    if (m->reg[CANINTF] & (RX0IF | RX1IF) && g->mix.failure < 200)
+        return usual / 2;
+    return usual;
+}
+
+static void inside_session(struct gen *g, uint8_t *r)
+{
+    if (chance(g, (g->mix.event_inside + event_chance(g, g->mix.event_inside)) / 2)) {
+        make_event(g, r);
+        return;
+    }
+    if (g->sent == g->planned && chance(g, g->mix.overlong))
+        add(g, any_byte(g));
+    if (g->sent == g->planned || chance(g, g->mix.cut)) {
+        r[0] = KIND_SELECT_HIGH;
+        return;
+    }
+    r[0] = KIND_EXCHANGE;
+    r[1] = g->plan[g->sent++];
+}
+
+static void outside_session(struct gen *g, uint8_t *r)
+{
+    if (chance(g, event_chance(g, g->mix.event_outside))) {
+        make_event(g, r);
+        return;
+    }
+    r[0] = KIND_SELECT_LOW;
+    plan_session(g);
+}
+
+void gen_record(struct gen *g, uint8_t record[RECORD_BYTES])
+{
+    uint8_t refusal, answer;
+    memset(record, 0, RECORD_BYTES);
+    if (g->profile == GEN_MIXED && g->mix_left-- == 0)
+        draw_mix(g);
+    if (chance(g, g->mix.bad))
+        make_bad(g, record);
+    else if (g->chip.selected)
+        inside_session(g, record);
+    else
+        outside_session(g, record);
+    model_step(&g->chip, record, &refusal, &answer);
+}
+
+void gen_log(enum gen_profile profile, uint64_t seed, uint8_t *log, size_t records)
+{
+    struct gen g;
+    gen_start(&g, profile, seed);
+    for (size_t i = 0; i < records; i++)
+        gen_record(&g, log + RECORD_BYTES * i);
+}
+
+/* ---- noise and damage ---- */
+
+void gen_noise(uint64_t seed, uint8_t *bytes, size_t length)
+{
+    struct gen g = {.state = seed};
+    memset(bytes, 0, length);
+    for (size_t i = 0; i < length; i += RECORD_BYTES) {
+        size_t left = length - i < RECORD_BYTES ? length - i : RECORD_BYTES;
+        bytes[i] = (uint8_t)below(&g, KINDS + 1);
+        if (left > 1 && chance(&g, 160))
+            bytes[i + 1] = any_byte(&g);
+        for (unsigned n = below(&g, 4); n > 1; n--)
+            bytes[i + below(&g, (unsigned)left)] = any_byte(&g);
+        if (chance(&g, 40))
+            for (size_t j = 0; j < left; j++)
+                bytes[i + j] = any_byte(&g);
+    }
+}
+
+void gen_damage(uint64_t seed, uint8_t *log, size_t records)
+{
+    struct gen g = {.state = seed};
+    for (size_t i = 0; i < records; i++)
+        if (chance(&g, 8))
+            log[RECORD_BYTES * i + below(&g, RECORD_BYTES)] ^= (uint8_t)(1u << below(&g, 8));
+}

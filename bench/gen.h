@@ -1,0 +1,61 @@
+/*
+ * Random logs. The generator follows the chip with the model so that its
+ * choices lead somewhere: it sets filters that match, fills and empties
+ * buffers, fails frames until bus-off, falls asleep and wakes. The same seed
+ * gives the same log.
+ */
+#ifndef BENCH_GEN_H
+#define BENCH_GEN_H
+
+#include <stddef.h>
+#include <stdint.h>
+
+#include "model.h"
+
+enum gen_profile {
+    GEN_MIXED, /* a new mix of habits every few hundred records */
+    GEN_QUIET, /* few frames, many reads */
+    GEN_BUSY,  /* mostly frames */
+    GEN_PROFILES
+};
+
+/* Chances of 256, unless said otherwise. */
+struct gen_mix {
+    uint8_t event_outside; /* an event rather than a session */
+    uint8_t event_inside;  /* an event before the next exchange */
+    uint8_t bad;           /* a record that is or may be refused */
+    uint8_t cut;           /* select high before the session's end */
+    uint8_t overlong;      /* one byte more, asked again after each */
+    uint8_t failure;       /* an own frame fails; a receive error comes */
+    uint8_t favoured;      /* the mode that is mostly asked for */
+    uint8_t mode_changes;  /* weight of mode changes among the sessions */
+};
+
+struct gen {
+    uint64_t state;
+    enum gen_profile profile;
+    struct gen_mix mix;
+    unsigned mix_left; /* records until the next mix */
+    struct model chip;
+    uint8_t plan[160]; /* bytes of the present session */
+    unsigned planned;
+    unsigned sent;
+    uint8_t changed; /* address written last, worth a look */
+};
+
+/* The bare random numbers (splitmix64). */
+uint64_t gen_next(uint64_t *state);
+
+void gen_start(struct gen *g, enum gen_profile profile, uint64_t seed);
+void gen_record(struct gen *g, uint8_t record[RECORD_BYTES]);
+
+/* A whole log from power-on. */
+void gen_log(enum gen_profile profile, uint64_t seed, uint8_t *log, size_t records);
+
+/* Bytes that are mostly no records, though some are; any length. */
+void gen_noise(uint64_t seed, uint8_t *bytes, size_t length);
+
+/* Changes about one record in thirty of a log. */
+void gen_damage(uint64_t seed, uint8_t *log, size_t records);
+
+#endif

@@ -1,0 +1,692 @@
+/*
+ * Tests of the second model by itself: the fixed cases, the whole-log rule,
+ * chips no log can reach, the tidied list, and random logs.
+ */
+#include <stdarg.h>
+#include <stdio.h>
+#include <stdlib.h>
+#include <string.h>
+
+#include "cases.h"
+#include "cover.h"
+#include "gen.h"
+#include "model.h"
+#include "registers.h"
+#include "script.h"
+#include "tidy.h"
+
+static unsigned failures;
+
+__attribute__((format(printf, 3, 4))) static void fail(const char *file, int line,
+                                                       const char *format, ...)
+{
+    va_list args;
+    va_start(args, format);
+    printf("%s:%d: ", file, line);
+    vprintf(format, args);
+    printf("\n");
+    va_end(args);
+    failures++;
+}
+
+#define EXPECT(what, want, got)                                                       \
+    do {                                                                              \
+        long want_ = (long)(want), got_ = (long)(got);                                \
+        if (want_ != got_)                                                            \
+            fail(__FILE__, __LINE__, "%s: expected %ld, got %ld", what, want_, got_); \
+    } while (0)
+
+/* ---- fixed cases ---- */
+
+static void check_script(const char *name, const struct script *s)
+{
+    struct model m;
+    model_power_on(&m);
+    for (size_t i = 0; i < s->count; i++) {
+        const struct script_want *want = &s->want[i];
+        uint8_t refusal, answer;
+        model_step(&m, s->records + RECORD_BYTES * i, &refusal, &answer);
+        if (refusal == want->refusal && answer == want->answer)
+            continue;
+        fail(want->file, want->line,
+             "%s: record %zu: expected refusal %u answer %02Xh, got refusal %u answer %02Xh", name,
+             i + 1, want->refusal, want->answer, refusal, answer);
+        return;
+    }
+    if (m.selected)
+        fail(__FILE__, __LINE__, "%s: expected select high at the end, got low", name);
+}
+
+/* The whole-log call has to give the same, from the same records. */
+static void check_script_as_log(const char *name, const struct script *s)
+{
+    uint8_t *answers = malloc(2 * s->count);
+    long count = model_run_log(s->records, RECORD_BYTES * s->count, answers, 2 * s->count);
+    if (count != (long)s->count)
+        fail(__FILE__, __LINE__, "%s: expected %zu records, got %ld", name, s->count, count);
+    for (size_t i = 0; count >= 0 && i < s->count; i++)
+        if (answers[2 * i] != s->want[i].refusal || answers[2 * i + 1] != s->want[i].answer) {
+            fail(s->want[i].file, s->want[i].line,
+                 "%s: whole log, record %zu: expected %u %u, got %u %u", name, i + 1,
+                 s->want[i].refusal, s->want[i].answer, answers[2 * i], answers[2 * i + 1]);
+            break;
+        }
+    free(answers);
+}
+
+static void test_fixed_cases(void)
+{
+    struct script s;
+    script_init(&s);
+    for (size_t i = 0; i < case_count(); i++) {
+        const struct fixed_case *c = case_at(i);
+        script_clear(&s);
+        c->write(&s);
+        check_script(c->name, &s);
+        check_script_as_log(c->name, &s);
+    }
+    script_free(&s);
+}
+
+/* ---- whole-log rule: refusals 6, 8 and 7 ---- */
+
+enum { GUARD = 0xA5 };
+
+static bool all_guard(const uint8_t *bytes, size_t length)
+{
+    for (size_t i = 0; i < length; i++)
+        if (bytes[i] != GUARD)
+            return false;
+    return true;
+}
+
+static void test_whole_log_rule(void)
+{
+    enum { MOST = LOG_RECORDS_MAX, OVER = MOST + 1 };
+    uint8_t *log = calloc(OVER + 1, RECORD_BYTES);
+    uint8_t *answers = malloc(2 * OVER);
+    static const struct {
+        size_t log_len, answers_len;
+        long want;
+    } refused[] = {
+        {1, 100, -6},
+        {15, 0, -6},                                 /* 6 before 7 */
+        {17, 100, -6},
+        {OVER * RECORD_BYTES + 1, 2 * OVER, -6},     /* 6 before 8 */
+        {OVER * RECORD_BYTES, 2 * OVER, -8},
+        {OVER * RECORD_BYTES, 0, -8},                /* 8 before 7 */
+        {RECORD_BYTES, 1, -7},
+        {RECORD_BYTES, 0, -7},
+        {10 * RECORD_BYTES, 19, -7},
+        {MOST * RECORD_BYTES, 2 * MOST - 1, -7},
+    };
+    memset(answers, GUARD, 2 * OVER);
+    for (size_t i = 0; i < sizeof refused / sizeof *refused; i++) {
+        EXPECT("refused log", refused[i].want,
+               model_run_log(log, refused[i].log_len, answers, refused[i].answers_len));
+        EXPECT("answers untouched", true, all_guard(answers, 2 * OVER));
+    }
+    EXPECT("empty log", 0, model_run_log(log, 0, answers, 2 * OVER));
+    EXPECT("empty log without buffers", 0, model_run_log(NULL, 0, NULL, 0));
+    EXPECT("answers untouched", true, all_guard(answers, 2 * OVER));
+    EXPECT("two records", 2, model_run_log(log, 2 * RECORD_BYTES, answers, 2 * OVER));
+    EXPECT("second select low", REFUSED_SELECT, answers[2]);
+    EXPECT("nothing past the answers", true, all_guard(answers + 4, 2 * OVER - 4));
+    EXPECT("longest log", MOST, model_run_log(log, MOST * RECORD_BYTES, answers, 2 * MOST));
+    EXPECT("nothing past the answers", true, all_guard(answers + 2 * MOST, 2));
+    free(log);
+    free(answers);
+}
+
+/* ---- chips that no log reaches ---- */
+
+static struct model step(struct model m, uint8_t kind, uint8_t byte1, uint8_t want_refusal,
+                         uint8_t want_answer)
+{
+    uint8_t record[RECORD_BYTES] = {kind, byte1}, refusal, answer;
+    model_step(&m, record, &refusal, &answer);
+    EXPECT("refusal", want_refusal, refusal);
+    EXPECT("answer", want_answer, answer);
+    return m;
+}
+
+static struct model chip_in(uint8_t mode)
+{
+    struct model m;
+    model_power_on(&m);
+    m.mode = mode;
+    return m;
+}
+
+static void test_unreached_requests(void)
+{
+    struct model m = chip_in(MODE_CONFIGURATION);
+    m.request = MODE_NORMAL;
+    struct model after = step(m, KIND_SELECT_HIGH, 0, REFUSED_SELECT, 0);
+    EXPECT("a refused step leaves the chip", 0, memcmp(&m, &after, sizeof m));
+    after = step(m, KIND_RECEIVE_ERROR, 0, REFUSED_NOT, 0);
+    EXPECT("any accepted step carries a request out", MODE_NORMAL, after.mode);
+    EXPECT("after the step's own act", 0, after.rec);
+    EXPECT("request", NO_REQUEST, after.request);
+
+    m = chip_in(MODE_SLEEP);
+    m.request = MODE_LOOPBACK;
+    m.tec = 100;
+    m.reg[CANINTE] = WAKIF;
+    after = step(m, KIND_FRAME, 0, REFUSED_NOT, RX_WOKE);
+    EXPECT("waking, then the request", MODE_LOOPBACK, after.mode);
+    EXPECT("WAKIF", WAKIF, after.reg[CANINTF]);
+    EXPECT("TEC, by Listen-Only in between", 0, after.tec);
+
+    m = chip_in(MODE_CONFIGURATION);
+    m.request = MODE_CONFIGURATION;
+    m.rec = 9;
+    after = step(m, KIND_BUS_IDLE, 0, REFUSED_NOT, NO_FLIGHT);
+    EXPECT("entering the present mode clears REC", 0, after.rec);
+}
+
+static void test_unreached_abort(void)
+{
+    struct model m = chip_in(MODE_NORMAL);
+    m.selected = 1;
+    m.open = OPEN_WRITE;
+    m.pointer = CANCTRL;
+    m.reg[CANCTRL] = ABAT;
+    m.reg[TXB0CTRL] = TXREQ;
+    struct model after = step(m, KIND_EXCHANGE, ABAT, REFUSED_NOT, 0);
+    EXPECT("a store with ABAT already set aborts too", ABTF, after.reg[TXB0CTRL]);
+}
+
+static void test_unreached_flights(void)
+{
+    for (uint8_t mode = 0; mode < MODES; mode++) {
+        struct model m = chip_in(mode);
+        m.flight = 1;
+        m.reg[TXB1CTRL] = TXREQ;
+        m.tec = 20;
+        if (mode == MODE_LOOPBACK)
+            continue;
+        struct model after = step(m, KIND_FRAME_ENDS, END_ERROR, REFUSED_NOT, 0);
+        EXPECT("TEC after an error", mode == MODE_NORMAL ? 28 : 20, after.tec);
+        EXPECT("TXERR", TXREQ | TXERR, after.reg[TXB1CTRL]);
+        EXPECT("MERRF", MERRF, after.reg[CANINTF]);
+        EXPECT("flight", NO_FLIGHT, after.flight);
+        after = step(m, KIND_FRAME_ENDS, END_SENT, REFUSED_NOT, 0);
+        EXPECT("TEC after a send", mode == MODE_NORMAL ? 19 : 20, after.tec);
+        EXPECT("TX1IF", TX1IF, after.reg[CANINTF]);
+        EXPECT("no frame received", 0, after.reg[CANINTF] & (RX0IF | RX1IF));
+    }
+}
+
+static void test_unreached_counters(void)
+{
+    struct model m = chip_in(MODE_NORMAL);
+    m.flight = 0;
+    m.tec = 260;
+    EXPECT("TEC stops", 263, step(m, KIND_FRAME_ENDS, END_ERROR, REFUSED_NOT, 0).tec);
+    m.tec = 256;
+    EXPECT("TEC falls", 255, step(m, KIND_FRAME_ENDS, END_SENT, REFUSED_NOT, 0).tec);
+    m = chip_in(MODE_NORMAL);
+    m.rec = 250;
+    EXPECT("REC stops", 255, step(m, KIND_RECEIVE_ERROR, 1, REFUSED_NOT, 0).rec);
+    m.mode = MODE_LISTEN_ONLY;
+    EXPECT("REC rests", 250, step(m, KIND_FRAME, 0, REFUSED_NOT, RX_IN_RXB0).rec);
+    for (uint8_t mode = 0; mode < MODES; mode++) {
+        m = chip_in(mode);
+        m.tec = 300;
+        m.reg[TXB0CTRL] = TXREQ;
+        step(m, KIND_FRAME, 0, REFUSED_NOT, RX_NOT_LISTENING);
+        step(m, KIND_BUS_IDLE, 0, REFUSED_NOT, NO_FLIGHT);
+        EXPECT("TEC reads", 255, model_reads(&m, TEC));
+        EXPECT("recovery", 0, step(m, KIND_RECOVERY, 0, REFUSED_NOT, 0).tec);
+    }
+}
+
+static void test_held_and_read(void)
+{
+    struct model m = chip_in(MODE_NORMAL);
+    m.reg[RXF0SIDH] = 0x12;
+    EXPECT("filter held", 0x12, model_holds(&m, RXF0SIDH));
+    EXPECT("filter read outside Configuration", 0, model_reads(&m, RXF0SIDH));
+    EXPECT("mask address above 7Fh", 0, model_reads(&m, 0x80 | RXM1SIDH));
+    m.mode = MODE_CONFIGURATION;
+    EXPECT("filter read in Configuration", 0x12, model_reads(&m, RXF0SIDH));
+    EXPECT("INT", false, model_int_low(&m));
+    m.reg[CANINTF] = MERRF;
+    EXPECT("INT, not enabled", false, model_int_low(&m));
+    m.reg[CANINTE] = MERRF;
+    EXPECT("INT, by MERRF", true, model_int_low(&m));
+}
+
+/* ---- tidied list, by hand ---- */
+
+/* Records from first on must stand in the order given; earlier ones in place. */
+static void check_order(int line, const struct script *s, const size_t *order, size_t first)
+{
+    uint8_t *tidied = malloc(RECORD_BYTES * s->count);
+    size_t *map = malloc(s->count * sizeof *map);
+    tidy_log(s->records, s->count, tidied, map, NULL);
+    for (size_t i = 0; i < s->count; i++) {
+        size_t want = i < first ? i : first + order[i - first];
+        if (map[i] == want && !memcmp(tidied + RECORD_BYTES * i, s->records + RECORD_BYTES * want,
+                                      RECORD_BYTES))
+            continue;
+        fail(__FILE__, line, "tidied place %zu: expected record %zu, got %zu", i, want, map[i]);
+        break;
+    }
+    free(tidied);
+    free(map);
+}
+
+/* Tidies what was written to s since the mark and starts a new script. */
+#define CHECK_ORDER(...)                                          \
+    do {                                                          \
+        static const size_t order_[] = {__VA_ARGS__};             \
+        EXPECT("records", sizeof order_ / sizeof *order_, s->count - mark); \
+        check_order(__LINE__, s, order_, mark);                   \
+        script_clear(s);                                          \
+        sc_mode(s, MODE_NORMAL);                                  \
+        mark = s->count;                                          \
+    } while (0)
+
+static void test_tidied_moments(struct script *s)
+{
+    size_t mark;
+    script_clear(s);
+    sc_mode(s, MODE_NORMAL);
+    mark = s->count;
+
+    sc_low(s); /* READ: its reply */
+    sc_xfer(s, SPI_READ, 0);
+    sc_std(s, 1, 0);
+    sc_xfer(s, CANINTF, 0);
+    sc_idle(s, 0);
+    sc_xfer(s, 0, 0);
+    sc_std(s, 2, 0);
+    sc_high(s);
+    CHECK_ORDER(2, 4, 0, 1, 3, 5, 7, 6);
+
+    sc_low(s); /* BIT MODIFY: its data byte */
+    sc_xfer(s, SPI_BIT_MODIFY, 0);
+    sc_xfer(s, CANINTF, 0);
+    sc_xfer(s, 1, 0);
+    sc_std(s, 1, 0);
+    sc_xfer(s, 0, 0);
+    sc_std(s, 2, 0);
+    sc_high(s);
+    CHECK_ORDER(4, 0, 1, 2, 3, 5, 7, 6);
+
+    sc_low(s); /* WRITE: the same */
+    sc_xfer(s, SPI_WRITE, 0);
+    sc_std(s, 1, 0);
+    sc_xfer(s, CANINTF, 0);
+    sc_xfer(s, 0, 0);
+    sc_std(s, 2, 0);
+    sc_high(s);
+    CHECK_ORDER(2, 0, 1, 3, 4, 6, 5);
+
+    for (unsigned i = 0; i < 2; i++) {
+        sc_low(s); /* RESET and RTS: the byte itself */
+        sc_std(s, 1, 0);
+        sc_xfer(s, i ? SPI_RTS | 3 : SPI_RESET, 0);
+        sc_std(s, 2, 0);
+        sc_high(s);
+        CHECK_ORDER(1, 0, 2, 4, 3);
+    }
+
+    for (unsigned i = 0; i < 2; i++) {
+        sc_low(s); /* a status: its reply */
+        sc_std(s, 1, 0);
+        sc_xfer(s, i ? SPI_RX_STATUS : SPI_READ_STATUS, 0);
+        sc_std(s, 2, 0);
+        sc_xfer(s, 0, 0);
+        sc_std(s, 3, 0);
+        sc_high(s);
+        CHECK_ORDER(1, 3, 0, 2, 4, 6, 5);
+    }
+}
+
+static void test_tidied_cut_and_long(struct script *s)
+{
+    size_t mark;
+    script_clear(s);
+    sc_mode(s, MODE_NORMAL);
+    mark = s->count;
+
+    sc_low(s); /* READ cut before its reply: select high */
+    sc_xfer(s, SPI_READ, 0);
+    sc_xfer(s, CANINTF, 0);
+    sc_std(s, 2, 0);
+    sc_high(s);
+    CHECK_ORDER(3, 0, 1, 2, 4);
+
+    sc_low(s); /* READ of two bytes is not listed */
+    sc_xfer(s, SPI_READ, 0);
+    sc_xfer(s, CANINTF, 0);
+    sc_xfer(s, 0, 0);
+    sc_std(s, 2, 0);
+    sc_xfer(s, 0, 0);
+    sc_high(s);
+    CHECK_ORDER(0, 1, 2, 3, 4, 5, 6);
+
+    sc_low(s); /* with a byte more RTS is not listed */
+    sc_xfer(s, SPI_RTS, 0);
+    sc_std(s, 2, 0);
+    sc_xfer(s, 0, 0);
+    sc_high(s);
+    CHECK_ORDER(0, 1, 2, 3, 4);
+
+    sc_low(s); /* no exchange: select high */
+    sc_std(s, 1, 0);
+    sc_high(s);
+    CHECK_ORDER(1, 0, 2);
+
+    sc_low(s); /* an unknown code alone: select high */
+    sc_std(s, 1, 0);
+    sc_xfer(s, 0xFF, 0);
+    sc_std(s, 2, 0);
+    sc_high(s);
+    CHECK_ORDER(1, 3, 0, 2, 4);
+
+    sc_low(s); /* and with a byte more: not listed */
+    sc_xfer(s, 0xFF, 0);
+    sc_std(s, 2, 0);
+    sc_xfer(s, 0xFF, 0);
+    sc_high(s);
+    CHECK_ORDER(0, 1, 2, 3, 4);
+}
+
+static void test_tidied_buffers(struct script *s)
+{
+    size_t mark;
+    script_clear(s);
+    sc_mode(s, MODE_NORMAL);
+    mark = s->count;
+
+    sc_low(s); /* READ RX BUFFER with RX0IF clear at select low */
+    sc_xfer(s, 0x90, 0);
+    sc_std(s, 1, 0);
+    sc_high(s);
+    CHECK_ORDER(0, 1, 2, 3);
+
+    sc_std(s, 1, 0);
+    sc_low(s); /* with RX0IF set */
+    sc_xfer(s, 0x92, 0);
+    sc_std(s, 2, 0);
+    for (unsigned i = 0; i < 8; i++)
+        sc_xfer(s, 0, 0);
+    sc_std(s, 3, 0);
+    sc_high(s);
+    CHECK_ORDER(0, 3, 12, 1, 2, 4, 5, 6, 7, 8, 9, 10, 11, 13);
+
+    sc_std(s, 1, 0);
+    sc_low(s); /* past data byte 7 */
+    sc_xfer(s, 0x92, 0);
+    sc_std(s, 2, 0);
+    for (unsigned i = 0; i < 9; i++)
+        sc_xfer(s, 0, 0);
+    sc_high(s);
+    CHECK_ORDER(0, 1, 2, 3, 4, 5, 6, 7, 8, 9, 10, 11, 12, 13);
+
+    sc_rts(s, 1);
+    sc_low(s); /* LOAD TX BUFFER of a buffer with TXREQ */
+    sc_xfer(s, 0x40, 0);
+    sc_std(s, 2, 0);
+    sc_high(s);
+    sc_low(s); /* of another */
+    sc_xfer(s, 0x42, 0);
+    sc_std(s, 2, 0);
+    sc_high(s);
+    CHECK_ORDER(0, 1, 2, 3, 4, 5, 6, 9, 7, 8, 10);
+
+    sc_rts(s, 1);
+    sc_idle(s, 0);
+    sc_write(s, TXB0CTRL, 0);
+    sc_low(s); /* in flight at select low */
+    sc_xfer(s, 0x40, 0);
+    sc_end(s, END_SENT, 0);
+    sc_xfer(s, 0x11, 0);
+    sc_high(s);
+    CHECK_ORDER(0, 1, 2, 3, 4, 5, 6, 7, 8, 9, 10, 11, 12, 13);
+}
+
+static void test_tidied_refusals(struct script *s)
+{
+    static const uint8_t damaged[RECORD_BYTES] = {KIND_FRAME, 0xFF};
+    static const uint8_t no_exchange[RECORD_BYTES] = {KIND_EXCHANGE, SPI_RESET, 1};
+    size_t mark;
+    script_clear(s);
+    sc_mode(s, MODE_NORMAL);
+    mark = s->count;
+
+    sc_low(s);
+    sc_refused(s, REFUSED_SELECT, KIND_SELECT_LOW, 0); /* no event: keeps its place */
+    sc_refused(s, REFUSED_FIELD, 200, 0);
+    sc_raw(s, damaged, REFUSED_FIELD, 0);                   /* an event by its kind */
+    sc_refused(s, REFUSED_STATE, KIND_RECOVERY, 0);         /* the same */
+    sc_xfer(s, SPI_RTS | 1, 0);
+    sc_refused(s, REFUSED_NO_FLIGHT, KIND_FRAME_ENDS, 0);
+    sc_refused(s, REFUSED_SELECT, KIND_SELECT_LOW, 0);
+    sc_high(s);
+    CHECK_ORDER(3, 4, 0, 1, 2, 5, 7, 8, 6);
+
+    sc_low(s); /* a refused exchange is none: RTS alone */
+    sc_raw(s, no_exchange, REFUSED_FIELD, 0);
+    sc_std(s, 1, 0);
+    sc_xfer(s, SPI_RTS | 1, 0);
+    sc_raw(s, no_exchange, REFUSED_FIELD, 0);
+    sc_std(s, 2, 0);
+    sc_high(s);
+    CHECK_ORDER(2, 0, 1, 3, 4, 6, 5);
+
+    sc_low(s); /* still open at the end */
+    sc_xfer(s, SPI_RTS | 1, 0);
+    sc_std(s, 1, 0);
+    CHECK_ORDER(0, 1, 2);
+}
+
+static void test_tidied_by_hand(void)
+{
+    struct script s;
+    script_init(&s);
+    test_tidied_moments(&s);
+    test_tidied_cut_and_long(&s);
+    test_tidied_buffers(&s);
+    test_tidied_refusals(&s);
+    script_free(&s);
+}
+
+/* ---- random logs ---- */
+
+static const char *state_difference(const struct model *a, const struct model *b)
+{
+    static char text[64];
+    for (unsigned i = 0; i < 128; i++)
+        if (model_holds(a, (uint8_t)i) != model_holds(b, (uint8_t)i)) {
+            snprintf(text, sizeof text, "address %02Xh", i);
+            return text;
+        }
+    if (a->tec != b->tec || a->rec != b->rec)
+        return "counters";
+    if (a->mode != b->mode || a->request != b->request)
+        return "mode or mode request";
+    if (a->flight != b->flight)
+        return "flight";
+    if (a->selected != b->selected)
+        return "select";
+    if (a->open != b->open || a->pointer != b->pointer || a->mask != b->mask ||
+        a->clears != b->clears)
+        return "open instruction";
+    return NULL;
+}
+
+static struct model run(const uint8_t *log, size_t records, uint8_t *answers)
+{
+    struct model m;
+    model_power_on(&m);
+    for (size_t i = 0; i < records; i++)
+        model_step(&m, log + RECORD_BYTES * i, &answers[2 * i], &answers[2 * i + 1]);
+    return m;
+}
+
+/* Demand 3 on one log: answers agree through the map, end states are equal. */
+static void check_tidied(uint64_t seed, const uint8_t *log, size_t records,
+                         struct tidy_tally *tally)
+{
+    uint8_t *tidied = malloc(RECORD_BYTES * records), *as_came = malloc(2 * records),
+            *in_order = malloc(2 * records);
+    size_t *map = malloc(records * sizeof *map);
+    tidy_log(log, records, tidied, map, tally);
+    struct model m = run(log, records, as_came);
+    struct model n = run(tidied, records, in_order);
+    for (size_t i = 0; i < records; i++) {
+        size_t from = map[i];
+        if (as_came[2 * from] == in_order[2 * i] && as_came[2 * from + 1] == in_order[2 * i + 1])
+            continue;
+        fail(__FILE__, __LINE__,
+             "seed %llu, record %zu (tidied place %zu): expected %u %u, tidied gave %u %u",
+             (unsigned long long)seed, from + 1, i + 1, as_came[2 * from], as_came[2 * from + 1],
+             in_order[2 * i], in_order[2 * i + 1]);
+        break;
+    }
+    const char *difference = state_difference(&m, &n);
+    if (difference)
+        fail(__FILE__, __LINE__, "seed %llu: expected the same end state, %s differs",
+             (unsigned long long)seed, difference);
+    free(tidied);
+    free(as_came);
+    free(in_order);
+    free(map);
+}
+
+static void test_demand_3(uint64_t seeds, struct tidy_tally *tally)
+{
+    enum { LONG = 1500, LOGS = 2000, SHORT = 40, SHORT_LOGS = 20000 };
+    uint8_t *log = malloc(RECORD_BYTES * LONG);
+    for (unsigned i = 0; i < LOGS + SHORT_LOGS && failures == 0; i++) {
+        size_t records = i < LOGS ? LONG : 1 + i % SHORT;
+        uint64_t seed = gen_next(&seeds);
+        gen_log(GEN_MIXED, seed, log, records);
+        if (i % 8 == 0)
+            gen_damage(seed, log, records);
+        if (i % 50 == 1)
+            gen_noise(seed, log, RECORD_BYTES * records);
+        check_tidied(seed, log, records, tally);
+    }
+    free(log);
+}
+
+/* Facts of every chip that a log can reach. */
+static const char *broken_fact(const struct model *m)
+{
+    bool sends = m->mode == MODE_NORMAL || m->mode == MODE_LOOPBACK;
+    uint8_t txreq = 0;
+    for (unsigned n = 0; n < 3; n++)
+        if (m->reg[TXB0CTRL + 0x10 * n] & TXREQ)
+            txreq |= (uint8_t)(1u << n);
+    if (m->flight != NO_FLIGHT && (!sends || model_bus_off(m)))
+        return "a flight is in Normal or Loopback and not in bus-off";
+    if (m->request != NO_REQUEST && (!sends || (txreq == 0 && m->flight == NO_FLIGHT)))
+        return "a request waits for a TXREQ or a flight";
+    if (m->request == m->mode)
+        return "a request differs from the mode";
+    if ((m->mode == MODE_LISTEN_ONLY || m->mode == MODE_CONFIGURATION) && (m->tec || m->rec))
+        return "Listen-Only and Configuration have clear counters";
+    if ((m->reg[CANCTRL] & ABAT) && (txreq & ~(m->flight == NO_FLIGHT ? 0 : 1 << m->flight)))
+        return "ABAT leaves TXREQ in flight only";
+    if (!(m->reg[RXB0CTRL] & BUKT) != !(m->reg[RXB0CTRL] & BUKT1))
+        return "RXB0CTRL bit 1 copies bit 2";
+    if (m->tec > TEC_STOP || m->rec > REC_STOP)
+        return "the counters stop";
+    return NULL;
+}
+
+static void test_every_step(uint64_t seed)
+{
+    struct gen g;
+    struct model m;
+    gen_start(&g, GEN_MIXED, seed);
+    model_power_on(&m);
+    for (unsigned i = 0; i < 300000; i++) {
+        uint8_t record[RECORD_BYTES], refusal, answer;
+        struct model before = m;
+        gen_record(&g, record);
+        model_step(&m, record, &refusal, &answer);
+        const char *fact = broken_fact(&m);
+        if (refusal && (answer != 0 || memcmp(&before, &m, sizeof m) != 0))
+            fact = "a refused record answers 0 and changes nothing";
+        if (!fact)
+            continue;
+        fail(__FILE__, __LINE__, "seed %llu, record %u: expected that %s",
+             (unsigned long long)seed, i + 1, fact);
+        return;
+    }
+}
+
+static void test_generator(uint64_t seed)
+{
+    enum { RECORDS = 2000 };
+    static uint8_t one[RECORD_BYTES * RECORDS], two[RECORD_BYTES * RECORDS];
+    gen_log(GEN_MIXED, seed, one, RECORDS);
+    gen_log(GEN_MIXED, seed, two, RECORDS);
+    EXPECT("same seed, same log", 0, memcmp(one, two, sizeof one));
+    gen_log(GEN_MIXED, seed + 1, two, RECORDS);
+    EXPECT("another seed, another log", false, memcmp(one, two, sizeof one) == 0);
+}
+
+/* Random logs are worth something only if they get everywhere. */
+static void test_coverage(uint64_t seeds, const struct tidy_tally *tally, bool show)
+{
+    enum { RECORDS = 3000, LOGS = 200 };
+    struct cover c = {0};
+    uint8_t *log = malloc(RECORD_BYTES * RECORDS);
+    for (unsigned i = 0; i < LOGS; i++) {
+        gen_log(GEN_MIXED, gen_next(&seeds), log, RECORDS);
+        cover_log(&c, log, RECORDS);
+    }
+    free(log);
+    for (unsigned i = 0; i < COVER_POINTS; i++) {
+        if (c.count[i] == 0)
+            fail(__FILE__, __LINE__, "random logs: expected \"%s\" to happen, got none",
+                 cover_text[i]);
+        if (show)
+            printf("%10lu  %s\n", c.count[i], cover_text[i]);
+    }
+    for (unsigned i = 0; i < TIDY_COMMANDS; i++) {
+        bool can_be_cut = i != TIDY_EMPTY && i != TIDY_RESET && i != TIDY_RTS && i != TIDY_UNKNOWN;
+        if (tally->with_events[i] == 0 || (can_be_cut && tally->cut_with_events[i] == 0))
+            fail(__FILE__, __LINE__, "tidied: expected listed \"%s\" with events inside, got none",
+                 tidy_command_name[i]);
+        if (show)
+            printf("%10lu  listed %s with events (cut: %lu)\n", tally->with_events[i],
+                   tidy_command_name[i], tally->cut_with_events[i]);
+    }
+    EXPECT("events before a moment", true, tally->events_before > 0);
+    EXPECT("events after a moment", true, tally->events_after > 0);
+}
+
+int main(int argc, char **argv)
+{
+    uint64_t seed = argc > 1 ? strtoull(argv[1], NULL, 0) : 2515;
+    bool show = argc > 2 && strcmp(argv[2], "show") == 0;
+    struct tidy_tally tally = {0};
+    printf("model tests, seed %llu\n", (unsigned long long)seed);
+    test_fixed_cases();
+    test_whole_log_rule();
+    test_unreached_requests();
+    test_unreached_abort();
+    test_unreached_flights();
+    test_unreached_counters();
+    test_held_and_read();
+    test_tidied_by_hand();
+    test_generator(seed);
+    test_every_step(seed);
+    test_demand_3(seed, &tally);
+    test_coverage(seed, &tally, show);
+    if (failures) {
+        printf("%u failures\n", failures);
+        return 1;
+    }
+    printf("%zu fixed cases and the random logs agree\n", case_count());
+    return 0;
+}

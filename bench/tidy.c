@@ -1,0 +1,171 @@
+#include "tidy.h"
+
+#include <stdbool.h>
+#include <string.h>
+
+#include "model.h"
+#include "registers.h"
+
+const char *const tidy_command_name[TIDY_COMMANDS] = {
+    "no exchange", "RESET",     "RTS",            "BIT MODIFY",     "READ",         "WRITE",
+    "READ STATUS", "RX STATUS", "READ RX BUFFER", "LOAD TX BUFFER", "unknown code",
+};
+
+enum { MOMENT_MAX = 4 }; /* no command acts later than its fourth exchange */
+
+struct session {
+    size_t low;                    /* index of its select low */
+    size_t exchange_at[MOMENT_MAX];
+    size_t exchanges;
+    uint8_t code;
+    uint8_t rx_full;               /* RXnIF as met at select low */
+    bool tx_free[3];               /* TXREQ clear and not in flight at select low */
+};
+
+/* What a session was, judged at its end. */
+struct verdict {
+    enum tidy_command command;
+    bool listed;
+    size_t moment_exchange; /* counted from 1; 0 is select high */
+    bool cut;
+};
+
+static void open_session(struct session *s, const struct model *m, size_t index)
+{
+    memset(s, 0, sizeof *s);
+    s->low = index;
+    s->rx_full = m->reg[CANINTF] & (RX0IF | RX1IF);
+    for (unsigned n = 0; n < 3; n++)
+        s->tx_free[n] = !(m->reg[TXB0CTRL + 0x10 * n] & TXREQ) && m->flight != n;
+}
+
+static void note_exchange(struct session *s, uint8_t sent, size_t index)
+{
+    if (s->exchanges == 0)
+        s->code = sent;
+    if (s->exchanges < MOMENT_MAX)
+        s->exchange_at[s->exchanges] = index;
+    s->exchanges++;
+}
+
+/* A command of exactly last exchanges that acts at the last of them. */
+static struct verdict acts_at(const struct session *s, enum tidy_command command, size_t last)
+{
+    struct verdict v = {.command = command, .listed = s->exchanges <= last};
+    v.cut = s->exchanges < last;
+    v.moment_exchange = v.cut ? 0 : last;
+    return v;
+}
+
+/* A command of at most most exchanges that acts at select high. */
+static struct verdict acts_at_high(const struct session *s, enum tidy_command command, bool ready,
+                                   size_t most)
+{
+    struct verdict v = {.command = command, .listed = ready && s->exchanges <= most};
+    v.cut = s->exchanges < most;
+    return v;
+}
+
+/* Code byte and the bytes from the start address through data byte 7. */
+static size_t buffer_exchanges(bool from_data)
+{
+    return 1 + (from_data ? 8 : 13);
+}
+
+static struct verdict judge(const struct session *s)
+{
+    if (s->exchanges == 0)
+        return acts_at_high(s, TIDY_EMPTY, true, 0);
+    switch (s->code) {
+    case SPI_RESET:
+        return acts_at(s, TIDY_RESET, 1);
+    case SPI_READ:
+        return acts_at(s, TIDY_READ, 3);
+    case SPI_WRITE:
+        return acts_at(s, TIDY_WRITE, 3);
+    case SPI_BIT_MODIFY:
+        return acts_at(s, TIDY_BIT_MODIFY, 4);
+    case SPI_READ_STATUS:
+        return acts_at(s, TIDY_READ_STATUS, 2);
+    case SPI_RX_STATUS:
+        return acts_at(s, TIDY_RX_STATUS, 2);
+    case 0x90: case 0x92: case 0x94: case 0x96:
+        return acts_at_high(s, TIDY_READ_RX, s->rx_full & (s->code & 4 ? RX1IF : RX0IF),
+                            buffer_exchanges(s->code & 2));
+    case 0x40: case 0x41: case 0x42: case 0x43: case 0x44: case 0x45:
+        return acts_at_high(s, TIDY_LOAD_TX, s->tx_free[(s->code & 7) / 2],
+                            buffer_exchanges(s->code & 1));
+    case 0x80: case 0x81: case 0x82: case 0x83: case 0x84: case 0x85: case 0x86: case 0x87:
+        return acts_at(s, TIDY_RTS, 1);
+    }
+    return acts_at_high(s, TIDY_UNKNOWN, true, 1);
+}
+
+static bool is_event(const uint8_t *log, size_t i)
+{
+    uint8_t kind = log[RECORD_BYTES * i];
+    return kind >= KIND_FRAME && kind <= KIND_RECOVERY;
+}
+
+/* Puts the records low..high of a listed session in their tidied order. */
+static void arrange(const uint8_t *log, size_t low, size_t moment, size_t high, size_t *map,
+                    size_t *before, size_t *after)
+{
+    size_t place = low;
+    for (size_t i = low; i < moment; i++)
+        if (is_event(log, i))
+            map[place++] = i;
+    *before = place - low;
+    for (size_t i = low; i <= high; i++)
+        if (!is_event(log, i))
+            map[place++] = i;
+    *after = high + 1 - place;
+    for (size_t i = moment; i <= high; i++)
+        if (is_event(log, i))
+            map[place++] = i;
+}
+
+static void close_session(const struct session *s, const uint8_t *log, size_t high, size_t *map,
+                          struct tidy_tally *tally)
+{
+    struct verdict v = judge(s);
+    size_t before, after;
+    if (!v.listed)
+        return;
+    arrange(log, s->low, v.moment_exchange ? s->exchange_at[v.moment_exchange - 1] : high, high,
+            map, &before, &after);
+    if (!tally)
+        return;
+    tally->listed[v.command]++;
+    tally->events_before += before;
+    tally->events_after += after;
+    if (before + after > 0) {
+        tally->with_events[v.command]++;
+        if (v.cut)
+            tally->cut_with_events[v.command]++;
+    }
+}
+
+void tidy_log(const uint8_t *log, size_t records, uint8_t *tidied, size_t *map,
+              struct tidy_tally *tally)
+{
+    struct model m;
+    struct session s = {0};
+    model_power_on(&m);
+    for (size_t i = 0; i < records; i++) {
+        const uint8_t *record = log + RECORD_BYTES * i;
+        uint8_t refusal, answer;
+        map[i] = i;
+        if (record[0] == KIND_SELECT_LOW && !m.selected)
+            open_session(&s, &m, i);
+        model_step(&m, record, &refusal, &answer);
+        if (refusal != REFUSED_NOT)
+            continue;
+        if (record[0] == KIND_EXCHANGE)
+            note_exchange(&s, record[1], i);
+        else if (record[0] == KIND_SELECT_HIGH)
+            close_session(&s, log, i, map, tally);
+    }
+    for (size_t i = 0; i < records; i++)
+        memcpy(tidied + RECORD_BYTES * i, log + RECORD_BYTES * map[i], RECORD_BYTES);
+}

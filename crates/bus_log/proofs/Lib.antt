@@ -1,0 +1,5 @@
+pub mod Copy
+pub mod Steps
+pub mod Answers
+pub mod Refusals
+pub mod Minus

@@ -1,0 +1,53 @@
+-- A bus log: records of 16 bytes with no header, each a step of the chip. Assumes nothing: these are definitions.
+use mathlib.Core.Bool.{cond}
+use mathlib.Core.List.{List, [], _∷_}
+use Prim.Native.Nat.{ℕ, zero, suc, _+_, _/_}
+use lib.Dec.{leb}
+use lib.ListN.{length, take, drop, replicate}
+use Rattle.mcp2515.specs.declared.Chip.{Chip}
+use Rattle.mcp2515.specs.declared.Stepped.{Stepped}
+use Rattle.mcp2515.specs.Step.{stepOf}
+
+-- the bytes of a record
+abbrev pub recordSize : ℕ
+recordSize = 16
+
+-- the most records that a log may have
+abbrev pub maxRecords : ℕ
+maxRecords = 65535
+
+-- the refusal of a length that is not a multiple of the record size
+abbrev pub lengthRefusal : ℕ
+lengthRefusal = 6
+
+-- the refusal of an output that is too short
+abbrev pub roomRefusal : ℕ
+roomRefusal = 7
+
+-- the refusal of more records than a log may have
+abbrev pub countRefusal : ℕ
+countRefusal = 8
+
+-- how many whole records stand in size bytes
+abbrev pub recordsIn : ℕ → ℕ
+recordsIn size = size / recordSize
+
+-- the record at a place of a log, and zeros where no whole record is left there
+unfoldable pub recordAt : List ℕ → ℕ → List ℕ
+recordAt log at = cond (leb (at + recordSize) (length log)) (take recordSize (drop at log)) (replicate recordSize 0)
+
+-- the steps of the first n records of a log, each over the chip that the one before left
+unfoldable pub stepsOf : ℕ → Chip → List ℕ → List Stepped
+stepsOf zero c log = []
+stepsOf (suc n) c log =
+    stepOf c (take recordSize log) ∷ stepsOf n (stepOf c (take recordSize log) .chip) (drop recordSize log)
+
+-- the chip after some steps
+unfoldable pub chipAfter : Chip → List Stepped → Chip
+chipAfter c [] = c
+chipAfter c (s ∷ ss) = chipAfter (s .chip) ss
+
+-- the answer bytes of some steps: refusal and answer of each
+unfoldable pub answersOf : List Stepped → List ℕ
+answersOf [] = []
+answersOf (s ∷ ss) = s .refusal ∷ s .answer ∷ answersOf ss

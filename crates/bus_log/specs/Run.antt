@@ -1,0 +1,31 @@
+-- The run of a whole log from power-on. Assumes nothing: these are definitions.
+use mathlib.Core.Bool.{cond}
+use mathlib.Core.List.{List, _++_}
+use Prim.Native.Nat.{ℕ, _*_, _%_}
+use lib.Dec.{ltb}
+use lib.IntN.{ℤ, pos, negℤ}
+use lib.ListN.{length, drop}
+use Rattle.mcp2515.specs.Step.{powerOn}
+use Rattle.bus_log.specs.Log.{recordSize, maxRecords, lengthRefusal, roomRefusal, countRefusal, recordsIn, stepsOf, answersOf}
+
+-- the answer bytes of n records: two each
+abbrev pub answerRoom : ℕ → ℕ
+answerRoom n = 2 * n
+
+-- the refusal of a log of size bytes with room for so many answer bytes: 6, then 8, then 7, else 0
+unfoldable pub refusalOf : ℕ → ℕ → ℕ
+refusalOf size room =
+    cond (ltb 0 (size % recordSize)) lengthRefusal
+    (cond (ltb maxRecords (recordsIn size)) countRefusal
+    (cond (ltb room (answerRoom (recordsIn size))) roomRefusal 0))
+
+-- the result of the run: the number of records, or minus the refusal
+unfoldable pub runResult : ℕ → ℕ → ℤ
+runResult size room =
+    cond (ltb 0 (refusalOf size room)) (negℤ (pos (refusalOf size room))) (pos (recordsIn size))
+
+-- the answer buffer after the run: the answers and then what it held past them, or, refused, all that it held
+unfoldable pub runAnswers : List ℕ → List ℕ → List ℕ
+runAnswers log answers =
+    cond (ltb 0 (refusalOf (length log) (length answers))) answers
+    (answersOf (stepsOf (recordsIn (length log)) powerOn log) ++ drop (answerRoom (recordsIn (length log))) answers)

@@ -1,0 +1,5 @@
+pub mod Decimals
+pub mod Stores
+pub mod Lines
+pub mod Joins
+pub mod Renderings

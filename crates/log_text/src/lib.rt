@@ -1,0 +1,152 @@
+// The text of a replay: a line for each record of the log, rendered a stretch at a time.
+ghost use mathlib.Core.Path.{_≡_};
+ghost use mathlib.Core.List.{[], _∷_};
+ghost use Prim.Native.Nat.{_+_, _*_, _≤_, _<_, _^_, min};
+ghost use lib.ListN.{length};
+ghost use Rattle.bus_log.specs.Log.{recordSize};
+ghost use Rattle.log_text.specs.Decimal.{decimalOf};
+ghost use Rattle.log_text.specs.Line.{fieldOf, lineOf};
+ghost use Rattle.log_text.specs.Stretch.{lineRoom, recordsLeft, endRefusal, Rendering};
+ghost use Rattle.log_text.specs.Storing.{Stored, Lined};
+use bus_log::COUNT_REFUSAL;
+use bus_log::LENGTH_REFUSAL;
+use bus_log::MAX_RECORDS;
+use bus_log::RECORD_SIZE;
+use bus_log::ROOM_REFUSAL;
+use mcp2515::Chip;
+
+// The most bytes of a line.
+const LINE_ROOM: usize = 19;
+
+// What a stretch leaves: 0 where the run goes on, else the refusal that ended it, or 7 for an output
+// that is too short; the bytes of text; the records run so far and the chip that they left.
+pub struct Rendered {
+    pub refusal: u8,
+    pub len: usize,
+    pub number: u32,
+    pub chip: Chip,
+}
+
+// Each put function stores its text at a place of out and returns the place after it.
+fn put_byte(out: &mut [u8], at: usize, b: u8) -> usize
+    requires { ⌜ at < length (now out) ⌝ }
+    ensures { λ r. ⌜ Stored (now (out .entry)) at (b ∷ []) (now (out .exit)) r ⌝ }
+{
+    out[at] = b;
+    at + 1
+}
+
+fn put_decimal(out: &mut [u8], at: usize, n: u64) -> usize
+    requires { ⌜ at + length (decimalOf n) ≤ length (now out) ⌝ }
+    ensures { λ r. ⌜ Stored (now (out .entry)) at (decimalOf n) (now (out .exit)) r ⌝ }
+{
+    if n < 10 {
+        return put_byte(out, at, b'0' + n as u8);
+    }
+    let last = put_decimal(out, at, n / 10);
+    put_byte(out, last, b'0' + (n % 10) as u8)
+}
+
+fn put_field(out: &mut [u8], at: usize, n: u64, end: u8) -> usize
+    requires { ⌜ at + length (decimalOf n) < length (now out) ⌝ }
+    ensures { λ r. ⌜ Stored (now (out .entry)) at (fieldOf n end) (now (out .exit)) r ⌝ }
+{
+    let last = put_decimal(out, at, n);
+    put_byte(out, last, end)
+}
+
+fn put_line(out: &mut [u8], at: usize, number: u64, refusal: u8, answer: u8) -> usize
+    requires { ⌜ (at + lineRoom ≤ length (now out)) × (number ≤ 2 ^ 32) ⌝ }
+    ensures line { λ r. ⌜ Stored (now (out .entry)) at (lineOf number refusal answer) (now (out .exit)) r ⌝ }
+    ensures most { λ r. ⌜ r ≤ at + lineRoom ⌝ }
+{
+    let second = put_field(out, at, number, b' ');
+    let third = put_field(out, second, refusal as u64, b' ');
+    put_field(out, third, answer as u64, b'\n')
+}
+
+// The lines of count records, after number others and over the chip that they left.
+fn put_records(chip: Chip, number: u32, part: &[u8], count: usize, out: &mut [u8]) -> Rendered
+    requires { ⌜ (count * recordSize ≤ length (now part)) × (count * lineRoom ≤ length (now out)) × (number + count < 2 ^ 32) ⌝ }
+    ensures { λ r. ⌜ Lined chip number count (now (part .entry)) (now (out .entry)) (now (out .exit)) r ⌝ }
+{
+    let mut held = chip;
+    let mut left = count;
+    let mut at = 0;
+    let mut len = 0;
+    let mut n = number;
+    while left > 0 {
+        let stepped = mcp2515::step(held, bus_log::record_at(part, at));
+        len = put_line(out, len, n as u64 + 1, stepped.refusal, stepped.answer);
+        held = stepped.chip;
+        n += 1;
+        at += RECORD_SIZE;
+        left -= 1;
+    }
+    Rendered {
+        refusal: 0,
+        len,
+        number: n,
+        chip: held,
+    }
+}
+
+// How many records may still be run after number of them.
+fn records_left(number: u32) -> usize
+    ensures { λ r. ⌜ r ≡ recordsLeft number ⌝ }
+{
+    let n = number as usize;
+    if n < MAX_RECORDS { MAX_RECORDS - n } else { 0 }
+}
+
+fn least(a: usize, b: usize) -> usize
+    ensures { λ r. ⌜ r ≡ min a b ⌝ }
+{
+    if a < b { a } else { b }
+}
+
+// The refusal that ends the run in a stretch of size bytes, or 0. Past the limit only a whole record is
+// one too many; a short one is short.
+fn end_refusal(number: u32, size: usize) -> u8
+    ensures { λ r. ⌜ r ≡ endRefusal number size ⌝ }
+{
+    if records_left(number) < size / RECORD_SIZE {
+        return COUNT_REFUSAL;
+    }
+    if size % RECORD_SIZE > 0 {
+        return LENGTH_REFUSAL;
+    }
+    0
+}
+
+// The text of a stretch of the log, after number records and over the chip that they left. A line for
+// each whole record and one more is the room that it asks, whatever the text needs.
+pub fn render_stretch(chip: Chip, number: u32, part: &[u8], out: &mut [u8]) -> Rendered
+    ensures { λ r. ⌜ Rendering chip number (now (part .entry)) (now (out .entry)) (now (out .exit)) r ⌝ }
+{
+    let records = part.len() / RECORD_SIZE;
+    if out.len() < (records + 1) * LINE_ROOM {
+        return Rendered {
+            refusal: ROOM_REFUSAL,
+            len: 0,
+            number,
+            chip,
+        };
+    }
+    let count = least(records, records_left(number));
+    let lines = put_records(chip, number, part, count, out);
+    let refusal = end_refusal(number, part.len());
+    if refusal == 0 {
+        return lines;
+    }
+    let len = lines.len;
+    let last = lines.number;
+    let held = lines.chip;
+    let end = put_line(out, len, last as u64 + 1, refusal, 0);
+    Rendered {
+        refusal,
+        len: end,
+        number: last,
+        chip: held,
+    }
+}

@@ -1,0 +1,111 @@
+-- A refused record answers 0 and leaves the chip as it was. Assumes nothing.
+use mathlib.Core.Bool.{Bool, true, false, cond}
+use mathlib.Core.List.{List}
+use mathlib.Core.Path.{_≡_, refl}
+use Prim.Native.Nat.{ℕ}
+use lib.Dec.{eqb}
+use borrow.Author.Tests.{eqb-true}
+use Rattle.records.specs.declared.Kind.{Kind}
+use Rattle.records.specs.declared.Kind.the-variants.{SelectLow, Exchange, SelectHigh, FrameHeard, BusIdle, FrameEnds, ReceiveError, Recovery, Unknown}
+use Rattle.records.specs.Records.{byteAt, kindOf, isEvent, soundOf}
+use Rattle.registers.specs.declared.Core.{Core}
+use Rattle.controller.specs.Events.{eventRefusal, eventOf}
+use Rattle.spi.specs.declared.Command.{Command}
+use Rattle.spi.specs.declared.Command.the-variants.{Reset, Read, Write, BitModify, ReadRxBuffer, LoadTxBuffer, Rts, ReadStatus, RxStatus, UnknownCode}
+use Rattle.spi.specs.declared.Instruction.{Instruction}
+use Rattle.spi.specs.declared.Instruction.the-variants.{First, ReadAddress, Reading, WriteAddress, Writing, ModifyAddress, ModifyMask, ModifyData, ReadingBuffer, StatusReply, RxStatusReply, Done}
+use Rattle.spi.specs.declared.Act.{Act}
+use Rattle.spi.specs.Instructions.{commandOf, firstAct, exchangeAct, highAct, replyTo, acted, refusalOf}
+use Rattle.mcp2515.specs.declared.Chip.{Chip}
+use Rattle.mcp2515.specs.declared.Select.{Select}
+use Rattle.mcp2515.specs.declared.Select.the-variants.{Raised, Lowered}
+use Rattle.mcp2515.specs.Step.{askedBy, asked, turnedBy, turned, stepOf}
+
+first-accepted : (m : Command) → refusalOf (firstAct m) ≡ 0
+first-accepted Reset = refl
+first-accepted Read = refl
+first-accepted Write = refl
+first-accepted BitModify = refl
+first-accepted (ReadRxBuffer b a) = refl
+first-accepted (LoadTxBuffer b a) = refl
+first-accepted (Rts m) = refl
+first-accepted ReadStatus = refl
+first-accepted RxStatus = refl
+first-accepted UnknownCode = refl
+
+-- No exchange and no select high of an open session is refused.
+pub exchange-accepted : (i : Instruction) (b : ℕ) → refusalOf (exchangeAct i b) ≡ 0
+exchange-accepted First b = first-accepted (commandOf b)
+exchange-accepted ReadAddress b = refl
+exchange-accepted (Reading a) b = refl
+exchange-accepted WriteAddress b = refl
+exchange-accepted (Writing a) b = refl
+exchange-accepted ModifyAddress b = refl
+exchange-accepted (ModifyMask a) b = refl
+exchange-accepted (ModifyData a m) b = refl
+exchange-accepted (ReadingBuffer n a) b = refl
+exchange-accepted StatusReply b = refl
+exchange-accepted RxStatusReply b = refl
+exchange-accepted Done b = refl
+
+pub high-accepted : (i : Instruction) → refusalOf (highAct i) ≡ 0
+high-accepted First = refl
+high-accepted ReadAddress = refl
+high-accepted (Reading a) = refl
+high-accepted WriteAddress = refl
+high-accepted (Writing a) = refl
+high-accepted ModifyAddress = refl
+high-accepted (ModifyMask a) = refl
+high-accepted (ModifyData a m) = refl
+high-accepted (ReadingBuffer n a) = refl
+high-accepted StatusReply = refl
+high-accepted RxStatusReply = refl
+high-accepted Done = refl
+
+-- An act that was refused, and the select after it.
+record Unmoved (x : Act) (s t : Select) (k : Core) : Type 0 where
+  answers-0 : replyTo x k ≡ 0
+  core-kept : acted x k ≡ k
+  select-kept : t ≡ s
+
+unmoved-by : (g : Kind) (s : Select) (b : ℕ) (k : Core) → (refusalOf (askedBy g s b) ≡ 0 → ⊥) → Unmoved (askedBy g s b) s (turnedBy g s b) k
+unmoved-by SelectLow Raised b k h = absurd (h refl)
+unmoved-by SelectLow (Lowered i) b k h = record { answers-0 = refl; core-kept = refl; select-kept = refl }
+unmoved-by Exchange Raised b k h = record { answers-0 = refl; core-kept = refl; select-kept = refl }
+unmoved-by Exchange (Lowered i) b k h = absurd (h (exchange-accepted i b))
+unmoved-by SelectHigh Raised b k h = record { answers-0 = refl; core-kept = refl; select-kept = refl }
+unmoved-by SelectHigh (Lowered i) b k h = absurd (h (high-accepted i))
+unmoved-by FrameHeard s b k h = record { answers-0 = refl; core-kept = refl; select-kept = refl }
+unmoved-by BusIdle s b k h = record { answers-0 = refl; core-kept = refl; select-kept = refl }
+unmoved-by FrameEnds s b k h = record { answers-0 = refl; core-kept = refl; select-kept = refl }
+unmoved-by ReceiveError s b k h = record { answers-0 = refl; core-kept = refl; select-kept = refl }
+unmoved-by Recovery s b k h = record { answers-0 = refl; core-kept = refl; select-kept = refl }
+unmoved-by Unknown s b k h = record { answers-0 = refl; core-kept = refl; select-kept = refl }
+
+unmoved : (s : Select) (r : List ℕ) (k : Core) → (refusalOf (asked s r) ≡ 0 → ⊥) → Unmoved (asked s r) s (turned s r) k
+unfolding asked turned
+unmoved s r k h = go (soundOf r) refl
+  where
+    go : (b : Bool) → soundOf r ≡ b → Unmoved (asked s r) s (turned s r) k
+    go true e = rw e (unmoved-by (kindOf r) s (byteAt r 1) k (rw e at h))
+    go false e = rw e (record { answers-0 = refl; core-kept = refl; select-kept = refl })
+
+event-unmoved : (k : Core) (r : List ℕ) → (eventOf k r .refusal ≡ 0 → ⊥) → (eventOf k r .answer ≡ 0) × (eventOf k r .core ≡ k)
+unfolding eventOf
+event-unmoved k r h = go (eqb (eventRefusal (k .control) r) 0) refl
+  where
+    go : (b : Bool) → eqb (eventRefusal (k .control) r) 0 ≡ b → (eventOf k r .answer ≡ 0) × (eventOf k r .core ≡ k)
+    go true e = absurd ((rw e at h) refl)
+    go false e = rw e (refl, refl)
+
+pub refused-kept : (c : Chip) (r : List ℕ) → (stepOf c r .refusal ≡ 0 → ⊥) → (stepOf c r .answer ≡ 0) × (stepOf c r .chip ≡ c)
+unfolding stepOf
+refused-kept c r h = go (isEvent (kindOf r)) refl
+  where
+    go : (b : Bool) → isEvent (kindOf r) ≡ b → (stepOf c r .answer ≡ 0) × (stepOf c r .chip ≡ c)
+    go true e =
+        let u = event-unmoved (c .core) r (rw e at h) in
+        rw e (u .0, λ i. record { core = u .1 i; select = c .select })
+    go false e =
+        let u = unmoved (c .select) r (c .core) (rw e at h) in
+        rw e (u .answers-0, λ i. record { core = u .core-kept i; select = u .select-kept i })

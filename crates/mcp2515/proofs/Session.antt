@@ -1,0 +1,610 @@
+-- The laws of the SPI side from the facts of the core, and with them demand 3. Assumes nothing.
+use mathlib.Core.Bool.{Bool, true, false, cond}
+use mathlib.Core.List.{List}
+use mathlib.Core.Path.{_≡_, refl, sym, ap, subst, _∙_}
+use Prim.Native.Nat.{ℕ, zero, suc, _+_, _/_, _%_, _≤_, _<_}
+use native.Mathlib.Omega.{arith}
+use lib.Dec.{eqb}
+use Rattle.records.specs.declared.Kind.{Kind}
+use Rattle.records.specs.declared.Kind.the-variants.{SelectLow, Exchange, SelectHigh, FrameHeard, BusIdle, FrameEnds, ReceiveError, Recovery, Unknown}
+use Rattle.records.specs.Records.{byteAt, kindOf, isEvent, soundOf}
+use Rattle.registers.specs.declared.RxBuffer.{RxBuffer}
+use Rattle.registers.specs.declared.RxBuffer.the-variants.{Rxb0, Rxb1}
+use Rattle.registers.specs.declared.TxBuffer.{TxBuffer}
+use Rattle.registers.specs.declared.TxBuffer.the-variants.{Txb0, Txb1, Txb2}
+use Rattle.registers.specs.declared.Core.{Core}
+use Rattle.controller.specs.Events.{eventOf}
+use Rattle.spi.specs.declared.Command.{Command}
+use Rattle.spi.specs.declared.Command.the-variants.{Reset, Read, Write, BitModify, ReadRxBuffer, LoadTxBuffer, Rts, ReadStatus, RxStatus, UnknownCode}
+use Rattle.spi.specs.declared.Instruction.{Instruction}
+use Rattle.spi.specs.declared.Instruction.the-variants.{First, ReadAddress, Reading, WriteAddress, Writing, ModifyAddress, ModifyMask, ModifyData, ReadingBuffer, StatusReply, RxStatusReply, Done}
+use Rattle.mcp2515.specs.declared.Select.{Select}
+use Rattle.mcp2515.specs.declared.Select.the-variants.{Raised, Lowered}
+use Rattle.spi.specs.declared.Act.{Act}
+use Rattle.spi.specs.declared.Act.the-variants.{Rest, ResetAll, Fetch, Store, Modify, RequestToSend, ClearFlag, FetchStatus, FetchRxStatus, Refuse}
+use Rattle.mcp2515.specs.declared.Chip.{Chip}
+use Rattle.spi.specs.Instructions.{bufferCommand, commandOf, firstAct, opened, rising, exchangeAct, exchangeNext, highAct, replyTo, acted, refusalOf}
+use Rattle.mcp2515.specs.declared.Stepped.{Stepped}
+use Rattle.mcp2515.specs.Step.{powerOn, askedBy, asked, turnedBy, turned, spiStep, eventStep, stepOf, Outcome, nextChip, outcome}
+use Rattle.mcp2515.specs.Moments.{Role, event, low, exchange, high, other, acceptedRole, roleOf, bytesFrom, most, momentOf, isFull, isFree, allowed, Demand3For}
+use Rattle.mcp2515.proofs.Facts.{Good, rxBase, txBase, RxByte, TxByte, CoreFacts}
+use Rattle.mcp2515.proofs.Swap.{Stage, fresh, sofar, isOther, Event, roleAt, named, Swap, Laws, demand-3-by}
+
+clash : {A : Type 0} → true ≡ false → A
+clash e = absurd (let z : _≡_ {A = ℕ} 0 1 = cc in omega arith)
+
+-- ---- what a role says of its record
+abbrev isSession : Role → Bool
+isSession event = false
+isSession low = true
+isSession exchange = true
+isSession high = true
+isSession other = false
+
+abbrev kindFor : Role → Kind
+kindFor event = Unknown
+kindFor low = SelectLow
+kindFor exchange = Exchange
+kindFor high = SelectHigh
+kindFor other = Unknown
+
+abbrev roleBy : Kind → Bool → Role
+roleBy κ b = cond (isEvent κ) event (cond b (acceptedRole κ) other)
+
+record Kinds (κ : Kind) (b : Bool) (ρ : Role) : Type 0 where
+  of-kind : κ ≡ kindFor ρ
+  allowed-in : b ≡ true
+  no-event : isEvent κ ≡ false
+
+kinds : (κ : Kind) (b : Bool) → isSession (roleBy κ b) ≡ true → Kinds κ b (roleBy κ b)
+kinds SelectLow true e = record { of-kind = refl; allowed-in = refl; no-event = refl }
+kinds SelectLow false e = clash (sym e)
+kinds Exchange true e = record { of-kind = refl; allowed-in = refl; no-event = refl }
+kinds Exchange false e = clash (sym e)
+kinds SelectHigh true e = record { of-kind = refl; allowed-in = refl; no-event = refl }
+kinds SelectHigh false e = clash (sym e)
+kinds FrameHeard b e = clash (sym e)
+kinds BusIdle b e = clash (sym e)
+kinds FrameEnds b e = clash (sym e)
+kinds ReceiveError b e = clash (sym e)
+kinds Recovery b e = clash (sym e)
+kinds Unknown true e = clash (sym e)
+kinds Unknown false e = clash (sym e)
+
+-- An accepted record of the SPI side.
+record Accepted (c : Chip) (r : List ℕ) (κ : Kind) : Type 0 where
+  kind : kindOf r ≡ κ
+  sound : soundOf r ≡ true
+  plain : isEvent (kindOf r) ≡ false
+  taken : eqb (refusalOf (askedBy κ (c .select) (byteAt r 1))) 0 ≡ true
+
+accepted-as : (c : Chip) (r : List ℕ) (ρ : Role) → isSession ρ ≡ true → roleAt c r ≡ ρ → Accepted c r (kindFor ρ)
+unfolding roleOf stepOf asked
+accepted-as c r ρ s e = go (kinds (kindOf r) (eqb (outcome c r .refusal) 0) (rw e s)) (soundOf r) refl
+  where
+    go : Kinds (kindOf r) (eqb (outcome c r .refusal) 0) (roleAt c r) → (b : Bool) → soundOf r ≡ b → Accepted c r (kindFor ρ)
+    go k true h =
+        let z : kindOf r ≡ kindFor ρ = rw e at (k .of-kind) in
+        record { kind = z; sound = h; plain = k .no-event; taken = rw (k .no-event, h, z) at (k .allowed-in) }
+    go k false h = clash (sym (rw (k .no-event, h) at (k .allowed-in)))
+
+-- ---- acts
+-- Rest and refusals: nothing is asked of the core.
+abbrev isStill : Act → Bool
+isStill Rest = true
+isStill ResetAll = false
+isStill (Fetch a) = false
+isStill (Store a b) = false
+isStill (Modify a m b) = false
+isStill (RequestToSend m) = false
+isStill (ClearFlag n) = false
+isStill FetchStatus = false
+isStill FetchRxStatus = false
+isStill (Refuse n) = true
+
+-- The acts that may change places with an event that follows.
+abbrev CalmAct : Core → Act → Type 0
+CalmAct k Rest = Unit {0}
+CalmAct k ResetAll = ⊥
+CalmAct k (Fetch a) = (n : RxBuffer) × RxByte n a × (isFull k n ≡ true)
+CalmAct k (Store a b) = (n : TxBuffer) × TxByte n a × (isFree k n ≡ true)
+CalmAct k (Modify a m b) = ⊥
+CalmAct k (RequestToSend m) = ⊥
+CalmAct k (ClearFlag n) = ⊥
+CalmAct k FetchStatus = ⊥
+CalmAct k FetchRxStatus = ⊥
+CalmAct k (Refuse n) = Unit {0}
+
+still-calm : (k : Core) (a : Act) → isStill a ≡ true → CalmAct k a
+still-calm k Rest e = tt
+still-calm k ResetAll e = clash (sym e)
+still-calm k (Fetch a) e = clash (sym e)
+still-calm k (Store a b) e = clash (sym e)
+still-calm k (Modify a m b) e = clash (sym e)
+still-calm k (RequestToSend m) e = clash (sym e)
+still-calm k (ClearFlag n) e = clash (sym e)
+still-calm k FetchStatus e = clash (sym e)
+still-calm k FetchRxStatus e = clash (sym e)
+still-calm k (Refuse n) e = tt
+
+-- Only what is refused has a refusal.
+first-taken : (m : Command) → refusalOf (firstAct m) ≡ 0
+first-taken Reset = refl
+first-taken Read = refl
+first-taken Write = refl
+first-taken BitModify = refl
+first-taken (ReadRxBuffer n a) = refl
+first-taken (LoadTxBuffer n a) = refl
+first-taken (Rts m) = refl
+first-taken ReadStatus = refl
+first-taken RxStatus = refl
+first-taken UnknownCode = refl
+
+exchange-taken : (i : Instruction) (x : ℕ) → refusalOf (exchangeAct i x) ≡ 0
+exchange-taken First x = first-taken (commandOf x)
+exchange-taken ReadAddress x = refl
+exchange-taken (Reading a) x = refl
+exchange-taken WriteAddress x = refl
+exchange-taken (Writing a) x = refl
+exchange-taken ModifyAddress x = refl
+exchange-taken (ModifyMask a) x = refl
+exchange-taken (ModifyData a m) x = refl
+exchange-taken (ReadingBuffer n a) x = refl
+exchange-taken StatusReply x = refl
+exchange-taken RxStatusReply x = refl
+exchange-taken Done x = refl
+
+high-taken : (i : Instruction) → refusalOf (highAct i) ≡ 0
+high-taken First = refl
+high-taken ReadAddress = refl
+high-taken (Reading a) = refl
+high-taken WriteAddress = refl
+high-taken (Writing a) = refl
+high-taken ModifyAddress = refl
+high-taken (ModifyMask a) = refl
+high-taken (ModifyData a m) = refl
+high-taken (ReadingBuffer n a) = refl
+high-taken StatusReply = refl
+high-taken RxStatusReply = refl
+high-taken Done = refl
+
+-- ---- how far a session has come: the open instruction, with j exchanges behind the first
+abbrev Come : Command → ℕ → Instruction → Type 0
+Come Reset j i = i ≡ Done
+Come (Rts m) j i = i ≡ Done
+Come UnknownCode j i = i ≡ Done
+Come BitModify zero i = i ≡ ModifyAddress
+Come BitModify (suc zero) i = (a : ℕ) × (i ≡ ModifyMask a)
+Come BitModify (suc (suc zero)) i = (a : ℕ) × (m : ℕ) × (i ≡ ModifyData a m)
+Come BitModify (suc (suc (suc j))) i = i ≡ Done
+Come Read zero i = i ≡ ReadAddress
+Come Read (suc j) i = (a : ℕ) × (i ≡ Reading a)
+Come Write zero i = i ≡ WriteAddress
+Come Write (suc j) i = (a : ℕ) × (i ≡ Writing a)
+Come ReadStatus j i = i ≡ StatusReply
+Come RxStatus j i = i ≡ RxStatusReply
+Come (ReadRxBuffer n a) j i = i ≡ ReadingBuffer n (a + j)
+Come (LoadTxBuffer n a) j i = i ≡ Writing (a + j)
+
+come-first : (m : Command) → Come m 0 (opened m)
+come-first Reset = refl
+come-first (Rts m) = refl
+come-first UnknownCode = refl
+come-first BitModify = refl
+come-first Read = refl
+come-first Write = refl
+come-first ReadStatus = refl
+come-first RxStatus = refl
+come-first (ReadRxBuffer n a) = ap (λ (z : ℕ). ReadingBuffer n z) (omega arith)
+come-first (LoadTxBuffer n a) = ap (λ (z : ℕ). Writing z) (omega arith)
+
+calm-first : (m : Command) (k : Core) → 0 < momentOf m → CalmAct k (firstAct m)
+calm-first Reset k h = absurd (omega arith)
+calm-first (Rts m) k h = absurd (omega arith)
+calm-first UnknownCode k h = tt
+calm-first BitModify k h = tt
+calm-first Read k h = tt
+calm-first Write k h = tt
+calm-first ReadStatus k h = tt
+calm-first RxStatus k h = tt
+calm-first (ReadRxBuffer n a) k h = tt
+calm-first (LoadTxBuffer n a) k h = tt
+
+-- From its moment on a session is no READ RX BUFFER, and its select high asks nothing.
+high-still : (extra : ℕ) (m : Command) (j : ℕ) (i : Instruction) → momentOf m ≤ j → j < most extra m → Come m j i → isStill (highAct i) ≡ true
+high-still extra Reset j i h l c = rw c
+high-still extra (Rts m) j i h l c = rw c
+high-still extra UnknownCode j i h l c = rw c
+high-still extra BitModify zero i h l c = rw c
+high-still extra BitModify (suc zero) i h l c = rw (c .1)
+high-still extra BitModify (suc (suc zero)) i h l c = rw (c .2)
+high-still extra BitModify (suc (suc (suc j))) i h l c = rw c
+high-still extra Read zero i h l c = rw c
+high-still extra Read (suc j) i h l c = rw (c .1)
+high-still extra Write zero i h l c = rw c
+high-still extra Write (suc j) i h l c = rw (c .1)
+high-still extra ReadStatus j i h l c = rw c
+high-still extra RxStatus j i h l c = rw c
+high-still extra (ReadRxBuffer n a) j i h l c = absurd (omega arith)
+high-still extra (LoadTxBuffer n a) j i h l c = absurd (omega arith)
+
+-- ---- the addresses that a listed buffer instruction reaches
+abbrev Reach : Command → Type 0
+Reach Reset = Unit {0}
+Reach (Rts m) = Unit {0}
+Reach UnknownCode = Unit {0}
+Reach BitModify = Unit {0}
+Reach Read = Unit {0}
+Reach Write = Unit {0}
+Reach ReadStatus = Unit {0}
+Reach RxStatus = Unit {0}
+Reach (ReadRxBuffer n a) = (rxBase n + 1 ≤ a) × (a + bytesFrom a ≤ rxBase n + 14)
+Reach (LoadTxBuffer n a) = (txBase n + 1 ≤ a) × (a + bytesFrom a ≤ txBase n + 14)
+
+or-else : (P : Command → Type 0) (b : Bool) {m n : Command} → P m → P n → P (cond b m n)
+or-else P true p q = p
+or-else P false p q = q
+
+buffer-reach : (b : ℕ) → Reach (bufferCommand b)
+unfolding bufferCommand
+buffer-reach b =
+    or-else Reach (eqb b 0x90) (omega arith)
+    (or-else Reach (eqb b 0x92) (omega arith)
+    (or-else Reach (eqb b 0x94) (omega arith)
+    (or-else Reach (eqb b 0x96) (omega arith)
+    (or-else Reach (eqb b 0x40) (omega arith)
+    (or-else Reach (eqb b 0x41) (omega arith)
+    (or-else Reach (eqb b 0x42) (omega arith)
+    (or-else Reach (eqb b 0x43) (omega arith)
+    (or-else Reach (eqb b 0x44) (omega arith)
+    (or-else Reach (eqb b 0x45) (omega arith) tt)))))))))
+
+reach : (b : ℕ) → Reach (commandOf b)
+unfolding commandOf
+reach b =
+    or-else Reach (eqb (b / 8) 16) tt
+    (or-else Reach (eqb b 0xC0) tt
+    (or-else Reach (eqb b 0x03) tt
+    (or-else Reach (eqb b 0x02) tt
+    (or-else Reach (eqb b 0x05) tt
+    (or-else Reach (eqb b 0xA0) tt
+    (or-else Reach (eqb b 0xB0) tt (buffer-reach b)))))))
+
+-- A buffer lies below 80h, so that its addresses count on without a wrap.
+rx-low : (n : RxBuffer) → rxBase n ≤ 0x70
+rx-low Rxb0 = omega arith
+rx-low Rxb1 = omega arith
+
+tx-low : (n : TxBuffer) → txBase n ≤ 0x70
+tx-low Txb0 = omega arith
+tx-low Txb1 = omega arith
+tx-low Txb2 = omega arith
+
+rises : (a : ℕ) (j : ℕ) → a + j < 127 → rising (a + j) ≡ a + suc j
+rises a j h = omega arith
+
+-- ---- the steps of the chip
+spi-step : (c : Chip) (r : List ℕ) → isEvent (kindOf r) ≡ false → stepOf c r ≡ spiStep c r
+unfolding stepOf
+spi-step c r e = rw e
+
+event-step : (c : Chip) (e : List ℕ) → Event e → stepOf c e ≡ eventStep c e
+unfolding stepOf
+event-step c e v = rw v
+
+abbrev outcomeIn : Stepped → Outcome
+outcomeIn s = record { refusal = s .refusal; answer = s .answer }
+
+spi-next : (c : Chip) (r : List ℕ) → isEvent (kindOf r) ≡ false → nextChip c r ≡ spiStep c r .chip
+spi-next c r e = ap (λ (s : Stepped). s .chip) (spi-step c r e)
+
+spi-out : (c : Chip) (r : List ℕ) → isEvent (kindOf r) ≡ false → outcome c r ≡ outcomeIn (spiStep c r)
+spi-out c r e = ap outcomeIn (spi-step c r e)
+
+event-next : (c : Chip) (e : List ℕ) → Event e → nextChip c e ≡ eventStep c e .chip
+event-next c e v = ap (λ (s : Stepped). s .chip) (event-step c e v)
+
+event-out : (c : Chip) (e : List ℕ) → Event e → outcome c e ≡ outcomeIn (eventStep c e)
+event-out c e v = ap outcomeIn (event-step c e v)
+
+abbrev chip : Core → Instruction → Chip
+chip k i = record { core = k; select = Lowered i }
+
+-- The record is no event, and its act is calm, or still.
+record Calms (c : Chip) (r : List ℕ) : Type 0 where
+  spi : isEvent (kindOf r) ≡ false
+  calm : CalmAct (c .core) (asked (c .select) r)
+
+record Quiets (c : Chip) (r : List ℕ) : Type 0 where
+  spi : isEvent (kindOf r) ≡ false
+  still : isStill (asked (c .select) r) ≡ true
+
+quiets-calm : (c : Chip) (r : List ℕ) → Quiets c r → Calms c r
+quiets-calm c r q = record { spi = q .spi; calm = still-calm (c .core) (asked (c .select) r) (q .still) }
+
+quiets-back : (c : Chip) (r e : List ℕ) → Event e → Quiets (nextChip c e) r → Quiets c r
+quiets-back c r e v q =
+    record { spi = q .spi; still = subst (λ (d : Chip). isStill (asked (d .select) r) ≡ true) (event-next c e v) (q .still) }
+
+-- What an accepted record asks, and the chip after it, where the select is s.
+accepted-asks : (c : Chip) (r : List ℕ) (κ : Kind) (s : Select) → Accepted c r κ → c .select ≡ s → asked (c .select) r ≡ askedBy κ s (byteAt r 1)
+unfolding asked
+accepted-asks c r κ s a e = rw (a .sound, a .kind, e)
+
+accepted-turns : (c : Chip) (r : List ℕ) (κ : Kind) (s : Select) → Accepted c r κ → c .select ≡ s → turned (c .select) r ≡ turnedBy κ s (byteAt r 1)
+unfolding turned
+accepted-turns c r κ s a e = rw (a .sound, a .kind, e)
+
+accepted-next : (c : Chip) (r : List ℕ) (κ : Kind) (s : Select) → Accepted c r κ → c .select ≡ s
+    → nextChip c r ≡ record { core = acted (askedBy κ s (byteAt r 1)) (c .core); select = turnedBy κ s (byteAt r 1) }
+accepted-next c r κ s a e = spi-next c r (a .plain) ∙ rw (accepted-asks c r κ s a e, accepted-turns c r κ s a e)
+
+-- In a session, a record that is neither an event, an accepted exchange nor the accepted select high is refused.
+other-step : (k : Core) (i : Instruction) (r : List ℕ) → isOther (roleAt (chip k i) r) ≡ true
+    → (nextChip (chip k i) r ≡ chip k i) × Quiets (chip k i) r
+unfolding roleOf asked turned
+other-step k i r h = go (kindOf r) refl (soundOf r) refl
+  where
+    Goal : Type 0
+    Goal = (nextChip (chip k i) r ≡ chip k i) × Quiets (chip k i) r
+
+    refused : isEvent (kindOf r) ≡ false → (n : ℕ) → asked (Lowered i) r ≡ Refuse n → turned (Lowered i) r ≡ Lowered i → Goal
+    refused e n a t = (spi-next (chip k i) r e ∙ rw (a, t), record { spi = e; still = rw a })
+
+    taken : isEvent (kindOf r) ≡ false → refusalOf (asked (Lowered i) r) ≡ 0 → isOther (acceptedRole (kindOf r)) ≡ true
+    taken e z = rw (e, ap (λ (o : Outcome). o .refusal) (spi-out (chip k i) r e) ∙ z) at h
+
+    go : (κ : Kind) → kindOf r ≡ κ → (b : Bool) → soundOf r ≡ b → Goal
+    go SelectLow e true s = refused (rw e) 1 (rw (s, e)) (rw (s, e))
+    go SelectLow e false s = refused (rw e) 2 (rw s) (rw s)
+    go Exchange e true s = clash (sym (rw e at (taken (rw e) (rw (s, e) (exchange-taken i (byteAt r 1))))))
+    go Exchange e false s = refused (rw e) 2 (rw s) (rw s)
+    go SelectHigh e true s = clash (sym (rw e at (taken (rw e) (rw (s, e) (high-taken i)))))
+    go SelectHigh e false s = refused (rw e) 2 (rw s) (rw s)
+    go FrameHeard e b s = clash (sym (rw e at h))
+    go BusIdle e b s = clash (sym (rw e at h))
+    go FrameEnds e b s = clash (sym (rw e at h))
+    go ReceiveError e b s = clash (sym (rw e at h))
+    go Recovery e b s = clash (sym (rw e at h))
+    go Unknown e true s = refused (rw e) 2 (rw (s, e)) (rw (s, e))
+    go Unknown e false s = refused (rw e) 2 (rw s) (rw s)
+
+module _ (F : CoreFacts) where
+  open CoreFacts F using (good-power, good-acted, good-event, full-event, free-event, fetch-event, store-free, store-refusal, store-answer, store-event)
+
+  calm-happens : (k : Core) (e : List ℕ) (a : Act) → CalmAct k a → CalmAct (eventOf k e .core) a
+  calm-happens k e Rest c = tt
+  calm-happens k e ResetAll c = c
+  calm-happens k e (Fetch a) c = (c .0, c .1, full-event k e (c .0) (c .2))
+  calm-happens k e (Store a b) c = (c .0, c .1, free-event k e (c .0) (c .2))
+  calm-happens k e (Modify a m b) c = c
+  calm-happens k e (RequestToSend m) c = c
+  calm-happens k e (ClearFlag n) c = c
+  calm-happens k e FetchStatus c = c
+  calm-happens k e FetchRxStatus c = c
+  calm-happens k e (Refuse n) c = tt
+
+  record ActSwap (k : Core) (e : List ℕ) (a : Act) : Type 0 where
+    same-reply : replyTo a (eventOf k e .core) ≡ replyTo a k
+    same-refusal : eventOf (acted a k) e .refusal ≡ eventOf k e .refusal
+    same-answer : eventOf (acted a k) e .answer ≡ eventOf k e .answer
+    same-core : eventOf (acted a k) e .core ≡ acted a (eventOf k e .core)
+
+  -- An act that leaves the core as it is.
+  idle-swap : (k : Core) (e : List ℕ) (a : Act) → acted a k ≡ k → acted a (eventOf k e .core) ≡ eventOf k e .core
+      → replyTo a (eventOf k e .core) ≡ replyTo a k → ActSwap k e a
+  idle-swap k e a p q s = record { same-reply = s; same-refusal = rw p; same-answer = rw p; same-core = rw (p, q) }
+
+  act-swap : (k : Core) (e : List ℕ) (a : Act) → Good k → CalmAct k a → ActSwap k e a
+  act-swap k e Rest g c = idle-swap k e Rest g (good-event k e g) refl
+  act-swap k e ResetAll g c = absurd c
+  act-swap k e (Fetch a) g c = idle-swap k e (Fetch a) g (good-event k e g) (fetch-event k e (c .0) a (c .2) (c .1))
+  act-swap k e (Store a b) g c = record {
+    same-reply = refl;
+    same-refusal = store-refusal k e (c .0) a b g (c .2) (c .1);
+    same-answer = store-answer k e (c .0) a b g (c .2) (c .1);
+    same-core = store-event k e (c .0) a b g (c .2) (c .1);
+  }
+  act-swap k e (Modify a m b) g c = absurd c
+  act-swap k e (RequestToSend m) g c = absurd c
+  act-swap k e (ClearFlag n) g c = absurd c
+  act-swap k e FetchStatus g c = absurd c
+  act-swap k e FetchRxStatus g c = absurd c
+  act-swap k e (Refuse n) g c = idle-swap k e (Refuse n) refl refl refl
+
+  calms-swap : (c : Chip) (r e : List ℕ) → Good (c .core) → Event e → Calms c r → Swap c r e
+  calms-swap c r e g v q =
+      let w = act-swap (c .core) e (asked (c .select) r) g (q .calm) in
+      record {
+        first = ap (λ (d : Chip). outcome d r) (event-next c e v) ∙ spi-out (eventStep c e .chip) r (q .spi)
+            ∙ (λ t. record { refusal = refusalOf (asked (c .select) r); answer = w .same-reply t }) ∙ sym (spi-out c r (q .spi));
+        second = ap (λ (d : Chip). outcome d e) (spi-next c r (q .spi)) ∙ event-out (spiStep c r .chip) e v
+            ∙ (λ t. record { refusal = w .same-refusal t; answer = w .same-answer t }) ∙ sym (event-out c e v);
+        both = ap (λ (d : Chip). nextChip d e) (spi-next c r (q .spi)) ∙ event-next (spiStep c r .chip) e v
+            ∙ (λ t. record { core = w .same-core t; select = turned (c .select) r })
+            ∙ sym (ap (λ (d : Chip). nextChip d r) (event-next c e v) ∙ spi-next (eventStep c e .chip) r (q .spi));
+      }
+
+  calms-event : (c : Chip) (r e : List ℕ) → Event e → Calms c r → Calms (nextChip c e) r
+  calms-event c r e v q =
+      let w : Calms (eventStep c e .chip) r = record { spi = q .spi; calm = calm-happens (c .core) e (asked (c .select) r) (q .calm) } in
+      subst (λ (d : Chip). Calms d r) (sym (event-next c e v)) w
+
+  good-step : (c : Chip) (r : List ℕ) → Good (c .core) → Good (nextChip c r .core)
+  good-step c r g = go (isEvent (kindOf r)) refl
+    where
+      good : (d : Chip) → nextChip c r ≡ d → Good (d .core) → Good (nextChip c r .core)
+      good d e h = subst (λ (x : Chip). Good (x .core)) (sym e) h
+
+      go : (b : Bool) → isEvent (kindOf r) ≡ b → Good (nextChip c r .core)
+      go true e = good (eventStep c r .chip) (event-next c r e) (good-event (c .core) r g)
+      go false e = good (spiStep c r .chip) (spi-next c r e) (good-acted (asked (c .select) r) (c .core) g)
+
+  -- ---- what a session's command asks of the core
+  allowed-event : (m : Command) (k : Core) (e : List ℕ) → allowed k m ≡ true → allowed (eventOf k e .core) m ≡ true
+  allowed-event Reset k e h = h
+  allowed-event (Rts m) k e h = h
+  allowed-event UnknownCode k e h = h
+  allowed-event BitModify k e h = h
+  allowed-event Read k e h = h
+  allowed-event Write k e h = h
+  allowed-event ReadStatus k e h = h
+  allowed-event RxStatus k e h = h
+  allowed-event (ReadRxBuffer n a) k e h = full-event k e n h
+  allowed-event (LoadTxBuffer n a) k e h = free-event k e n h
+
+  allowed-first : (m : Command) (k : Core) → Good k → allowed k m ≡ true → allowed (acted (firstAct m) k) m ≡ true
+  allowed-first Reset k g h = h
+  allowed-first (Rts m) k g h = h
+  allowed-first UnknownCode k g h = h
+  allowed-first BitModify k g h = h
+  allowed-first Read k g h = h
+  allowed-first Write k g h = h
+  allowed-first ReadStatus k g h = h
+  allowed-first RxStatus k g h = h
+  allowed-first (ReadRxBuffer n a) k g h = ap (λ (z : Core). isFull z n) g ∙ h
+  allowed-first (LoadTxBuffer n a) k g h = ap (λ (z : Core). isFree z n) g ∙ h
+
+  -- A later exchange.
+  record More (m : Command) (j : ℕ) (k : Core) (i : Instruction) (x : ℕ) : Type 0 where
+    come : Come m (suc j) (exchangeNext i x)
+    keeps : allowed (acted (exchangeAct i x) k) m ≡ true
+    calm : suc j < momentOf m → CalmAct k (exchangeAct i x)
+    still : momentOf m ≤ j → isStill (exchangeAct i x) ≡ true
+
+  more : (extra : ℕ) (m : Command) (j : ℕ) (k : Core) (i : Instruction) (x : ℕ) → Good k → Reach m → suc j < most extra m
+      → Come m j i → allowed k m ≡ true → More m j k i x
+  more extra Reset j k i x g h l c p = rw c (record { come = refl; keeps = refl; calm = λ _. tt; still = λ _. refl })
+  more extra (Rts m) j k i x g h l c p = rw c (record { come = refl; keeps = refl; calm = λ _. tt; still = λ _. refl })
+  more extra UnknownCode j k i x g h l c p = rw c (record { come = refl; keeps = refl; calm = λ _. tt; still = λ _. refl })
+  more extra BitModify zero k i x g h l c p = rw c (record { come = (x % 128, refl); keeps = refl; calm = λ _. tt; still = λ _. refl })
+  more extra BitModify (suc zero) k i x g h l c p =
+      rw (c .1) (record { come = (c .0, x, refl); keeps = refl; calm = λ _. tt; still = λ _. refl })
+  more extra BitModify (suc (suc zero)) k i x g h l c p =
+      rw (c .2) (record { come = refl; keeps = refl; calm = λ h. absurd (omega arith); still = λ h. absurd (omega arith) })
+  more extra BitModify (suc (suc (suc j))) k i x g h l c p =
+      rw c (record { come = refl; keeps = refl; calm = λ _. tt; still = λ _. refl })
+  more extra Read zero k i x g h l c p = rw c (record { come = (x % 128, refl); keeps = refl; calm = λ _. tt; still = λ _. refl })
+  more extra Read (suc j) k i x g h l c p =
+      rw (c .1) (record { come = (rising (c .0), refl); keeps = refl; calm = λ h. absurd (omega arith); still = λ h. absurd (omega arith) })
+  more extra Write zero k i x g h l c p = rw c (record { come = (x % 128, refl); keeps = refl; calm = λ _. tt; still = λ _. refl })
+  more extra Write (suc j) k i x g h l c p =
+      rw (c .1) (record { come = (rising (c .0), refl); keeps = refl; calm = λ h. absurd (omega arith); still = λ h. absurd (omega arith) })
+  more extra ReadStatus j k i x g h l c p =
+      rw c (record { come = refl; keeps = refl; calm = λ h. absurd (omega arith); still = λ h. absurd (omega arith) })
+  more extra RxStatus j k i x g h l c p =
+      rw c (record { come = refl; keeps = refl; calm = λ h. absurd (omega arith); still = λ h. absurd (omega arith) })
+  more extra (ReadRxBuffer n a) j k i x g h l c p =
+      let t : RxByte n (a + j) = record { from = omega arith; to = omega arith } in
+      rw c (record {
+        come = ap (λ (z : ℕ). ReadingBuffer n z) (rises a j (omega (arith, rx-low n)));
+        keeps = ap (λ (z : Core). isFull z n) g ∙ p;
+        calm = λ _. (n, t, p);
+        still = λ z. absurd (omega arith);
+      })
+  more extra (LoadTxBuffer n a) j k i x g h l c p =
+      let t : TxByte n (a + j) = record { from = omega arith; to = omega arith } in
+      rw c (record {
+        come = ap (λ (z : ℕ). Writing z) (rises a j (omega (arith, tx-low n)));
+        keeps = store-free k n (a + j) x g p t;
+        calm = λ _. (n, t, p);
+        still = λ z. absurd (omega arith);
+      })
+
+  -- ---- the chip c of a session that began at c₀
+  abbrev Within : Chip → Stage → Chip → Type 0
+  Within c₀ fresh c = (c .select ≡ Lowered First) × ((m : Command) → allowed (c₀ .core) m ≡ true → allowed (c .core) m ≡ true)
+  Within c₀ (sofar m j) c = (i : Instruction) × (c .select ≡ Lowered i) × Come m j i × (allowed (c .core) m ≡ true) × Reach m
+
+  within-low : (c : Chip) (r : List ℕ) → Good (c .core) → roleAt c r ≡ low → Within c fresh (nextChip c r) × Calms c r
+  within-low c r g e = go (c .select) refl (accepted-as c r low refl e)
+    where
+      go : (s : Select) → c .select ≡ s → Accepted c r SelectLow → Within c fresh (nextChip c r) × Calms c r
+      go Raised es a =
+          let w : Within c fresh (chip (acted Rest (c .core)) First) = (refl, λ m h. ap (λ (k : Core). allowed k m) g ∙ h) in (
+            subst (λ (d : Chip). Within c fresh d) (sym (accepted-next c r SelectLow Raised a es)) w,
+            record { spi = a .plain; calm = rw (accepted-asks c r SelectLow Raised a es) tt },
+          )
+      go (Lowered i) es a = clash (sym (rw es at (a .taken)))
+
+  within-event : (c₀ : Chip) (σ : Stage) (c : Chip) (e : List ℕ) → Event e → Within c₀ σ c → Within c₀ σ (nextChip c e)
+  within-event c₀ σ c e v w = subst (λ (d : Chip). Within c₀ σ d) (sym (event-next c e v)) (go σ w)
+    where
+      go : (σ : Stage) → Within c₀ σ c → Within c₀ σ (eventStep c e .chip)
+      go fresh w = (w .0, λ m h. allowed-event m (c .core) e (w .1 m h))
+      go (sofar m j) w = (w .0, w .1, w .2, allowed-event m (c .core) e (w .3), w .4)
+
+  within-select : (c₀ : Chip) (σ : Stage) (c : Chip) → Within c₀ σ c → (i : Instruction) × (c .select ≡ Lowered i)
+  within-select c₀ fresh c w = (First, w .0)
+  within-select c₀ (sofar m j) c w = (w .0, w .1)
+
+  within-other : (c₀ : Chip) (σ : Stage) (c : Chip) (r : List ℕ) → isOther (roleAt c r) ≡ true → Within c₀ σ c
+      → Within c₀ σ (nextChip c r) × Quiets c r
+  within-other c₀ σ c r h w =
+      let s = within-select c₀ σ c w in
+      let at : chip (c .core) (s .0) ≡ c = λ t. record { core = c .core; select = sym (s .1) t } in
+      let o = subst (λ (d : Chip). isOther (roleAt d r) ≡ true → (nextChip d r ≡ d) × Quiets d r) at (other-step (c .core) (s .0) r) h in
+      (subst (λ (d : Chip). Within c₀ σ d) (sym (o .0)) w, o .1)
+
+  within-first : (c₀ c : Chip) (r : List ℕ) → Good (c .core) → roleAt c r ≡ exchange → allowed (c₀ .core) (named r) ≡ true
+      → Within c₀ fresh c → Within c₀ (sofar (named r) 0) (nextChip c r) × (0 < momentOf (named r) → Calms c r)
+  within-first c₀ c r g e h w =
+      let m : Command = named r in
+      let a : Accepted c r Exchange = accepted-as c r exchange refl e in
+      let p : Within c₀ (sofar m 0) (chip (acted (firstAct m) (c .core)) (opened m)) =
+      (opened m, refl, come-first m, allowed-first m (c .core) g (w .1 m h), reach (byteAt r 1)) in (
+        subst (λ (d : Chip). Within c₀ (sofar m 0) d) (sym (accepted-next c r Exchange (Lowered First) a (w .0))) p,
+        λ z. record { spi = a .plain; calm = rw (accepted-asks c r Exchange (Lowered First) a (w .0)) (calm-first m (c .core) z) },
+      )
+
+  module _ (extra : ℕ) where
+    within-next : (c₀ c : Chip) (m : Command) (j : ℕ) (r : List ℕ) → Good (c .core) → roleAt c r ≡ exchange → suc j < most extra m
+        → Within c₀ (sofar m j) c
+        → Within c₀ (sofar m (suc j)) (nextChip c r) × (suc j < momentOf m → Calms c r) × (momentOf m ≤ j → Quiets c r)
+    within-next c₀ c m j r g e l w =
+        let i : Instruction = w .0 in
+        let x : ℕ = byteAt r 1 in
+        let a : Accepted c r Exchange = accepted-as c r exchange refl e in
+        let n : More m j (c .core) i x = more extra m j (c .core) i x g (w .4) l (w .2) (w .3) in
+        let p : Within c₀ (sofar m (suc j)) (chip (acted (exchangeAct i x) (c .core)) (exchangeNext i x)) =
+        (exchangeNext i x, refl, n .come, n .keeps, w .4) in
+        let q : asked (c .select) r ≡ exchangeAct i x = accepted-asks c r Exchange (Lowered i) a (w .1) in (
+          subst (λ (d : Chip). Within c₀ (sofar m (suc j)) d) (sym (accepted-next c r Exchange (Lowered i) a (w .1))) p,
+          (λ z. record { spi = a .plain; calm = rw q (n .calm z) }),
+          (λ z. record { spi = a .plain; still = rw q (n .still z) }),
+        )
+
+    within-high : (c₀ c : Chip) (m : Command) (j : ℕ) (r : List ℕ) → roleAt c r ≡ high → momentOf m ≤ j → j < most extra m
+        → Within c₀ (sofar m j) c → Quiets c r
+    within-high c₀ c m j r e h l w =
+        let a : Accepted c r SelectHigh = accepted-as c r high refl e in
+        let q : asked (c .select) r ≡ highAct (w .0) = accepted-asks c r SelectHigh (Lowered (w .0)) a (w .1) in
+        record { spi = a .plain; still = rw q (high-still extra m j (w .0) h l (w .2)) }
+
+    good-power-on : Good (powerOn .core)
+    unfolding powerOn
+    good-power-on = good-power
+
+    laws : Laws extra
+    laws = record {
+      Good = λ c. Good (c .core);
+      good-start = good-power-on;
+      good-next = good-step;
+      Calm = Calms;
+      calm-swap = calms-swap;
+      calm-event = λ c r e g v q. calms-event c r e v q;
+      Quiet = Quiets;
+      quiet-calm = quiets-calm;
+      quiet-back = λ c r e g v q. quiets-back c r e v q;
+      Inside = Within;
+      inside-low = within-low;
+      inside-event = λ c₀ σ c e g v w. within-event c₀ σ c e v w;
+      inside-other = λ c₀ σ c r g h w. within-other c₀ σ c r h w;
+      inside-first = within-first;
+      inside-next = within-next;
+      inside-high = λ c₀ c m j r g e h l w. within-high c₀ c m j r e h l w;
+    }
+
+    -- Demand 3, for however many bytes past the last are let in.
+    pub demand-3-from : Demand3For extra
+    demand-3-from = demand-3-by extra laws

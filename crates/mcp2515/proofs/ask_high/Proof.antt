@@ -1,0 +1,21 @@
+use borrow.Author.Needs.{needs}
+use Rattle.mcp2515.proofs.ask_high.Statement.{statement}
+use Rattle.mcp2515.proofs.ask_high.Tie as tie
+
+enum-told : tie.Need-enum-told
+enum-told c = search needs
+
+enum-known-s : tie.Need-enum-known-s
+enum-known-s c = search needs
+
+high-act-requires : tie.Need-high-act-requires
+high-act-requires c κs = search needs
+
+returns : tie.Need-returns
+returns c = simp (c .enum-told .given .1)
+
+returns-2 : tie.Need-returns-2
+returns-2 c = search needs
+
+pub ask-high-spec : {M : Type 1} → statement M
+ask-high-spec = tie.close (tie.spec enum-told enum-known-s high-act-requires returns returns-2)

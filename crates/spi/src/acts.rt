@@ -1,0 +1,174 @@
+// What an act replies and what it does to the core.
+ghost use mathlib.Core.Path.{_≡_};
+ghost use mathlib.Core.Bool.{cond};
+ghost use lib.ListN.{getD};
+ghost use Prim.Native.Nat.{_%_};
+ghost use Rattle.registers.specs.State.{withCanintf, withControl};
+ghost use Rattle.controller.specs.Events.{settledCore};
+ghost use Rattle.spi.specs.Instructions.{
+  statusOf,
+  described,
+  shownHit,
+  describedRxb0,
+  describedRxb1,
+  rxStatusOf,
+  replyTo,
+  clearedOf,
+  acted,
+  refusalOf,
+};
+use crate::Act;
+use registers::Control;
+use registers::Core;
+use registers::RxBuffer;
+
+fn flag(on: bool, mask: u8) -> u8
+    ensures { λ r. ⌜ r ≡ cond on mask 0 ⌝ }
+{
+    if on { mask } else { 0 }
+}
+
+// READ STATUS.
+fn status(c: Control) -> u8
+    ensures { λ r. ⌜ r ≡ statusOf c ⌝ }
+{
+    let f = c.flags.canintf;
+    let x = c.tx.txb0;
+    let y = c.tx.txb1;
+    let z = c.tx.txb2;
+    let third = flag(z / 8 % 2 == 1, 64) | flag(f / 16 % 2 == 1, 128);
+    let second = flag(y / 8 % 2 == 1, 16) | (flag(f / 8 % 2 == 1, 32) | third);
+    let first = flag(x / 8 % 2 == 1, 4) | (flag(f / 4 % 2 == 1, 8) | second);
+    flag(f % 2 == 1, 1) | (flag(f / 2 % 2 == 1, 2) | first)
+}
+
+fn describe(ctrl: u8, sidl: u8, filter: u8) -> u8
+    ensures { λ r. ⌜ r ≡ described ctrl sidl filter ⌝ }
+{
+    flag(sidl / 8 % 2 == 1, 16) | (flag(ctrl / 8 % 2 == 1, 8) | filter)
+}
+
+fn shown_hit(h: u8) -> u8
+    ensures { λ r. ⌜ r ≡ shownHit (h % 8) ⌝ }
+{
+    let n = h % 8;
+    if n < 2 { n + 6 } else { n }
+}
+
+fn describe_rxb0(k: Core) -> u8
+    ensures { λ r. ⌜ r ≡ describedRxb0 k ⌝ }
+{
+    let c = k.control;
+    let ctrl = c.rx.rxb0;
+    let sidl = k.rx[2];
+    describe(ctrl, sidl, ctrl % 2)
+}
+
+fn describe_rxb1(k: Core) -> u8
+    ensures { λ r. ⌜ r ≡ describedRxb1 k ⌝ }
+{
+    let c = k.control;
+    let ctrl = c.rx.rxb1;
+    let sidl = k.rx[18];
+    describe(ctrl, sidl, shown_hit(ctrl))
+}
+
+// RX STATUS.
+fn rx_status(k: Core) -> u8
+    ensures { λ r. ⌜ r ≡ rxStatusOf k ⌝ }
+{
+    let c = k.control;
+    let f = c.flags.canintf;
+    let full0 = f % 2 == 1;
+    let full1 = f / 2 % 2 == 1;
+    let other = bits::choose(full1, describe_rxb1(k), 0);
+    flag(full1, 128) | (flag(full0, 64) | bits::choose(full0, describe_rxb0(k), other))
+}
+
+// The reply, sampled before the act.
+pub fn reply(x: Act, k: Core) -> u8
+    ensures { λ r. ⌜ r ≡ replyTo x k ⌝ }
+{
+    let c = k.control;
+    match x {
+        Act::Rest => 0,
+        Act::ResetAll => 0,
+        Act::Fetch(a) => registers::read(k, a),
+        Act::Store(_, _) => 0,
+        Act::Modify(_, _, _) => 0,
+        Act::RequestToSend(_) => 0,
+        Act::ClearFlag(_) => 0,
+        Act::FetchStatus => status(c),
+        Act::FetchRxStatus => rx_status(k),
+        Act::Refuse(_) => 0,
+    }
+}
+
+fn clear_flag(c: Control, n: RxBuffer) -> Control
+    ensures { λ r. ⌜ r ≡ clearedOf c n ⌝ }
+{
+    let f = c.flags.canintf;
+    match n {
+        RxBuffer::Rxb0 => with_canintf(c, f & 254),
+        RxBuffer::Rxb1 => with_canintf(c, f & 253),
+    }
+}
+
+fn with_canintf(c: Control, v: u8) -> Control
+    ensures { λ r. ⌜ r ≡ withCanintf c v ⌝ }
+{
+    let mut d = c;
+    d.flags.canintf = v;
+    d
+}
+
+fn settle(k: Core) -> Core
+    ensures { λ r. ⌜ r ≡ settledCore k ⌝ }
+{
+    let c = k.control;
+    with_control(k, registers::settle(c))
+}
+
+fn with_control(k: Core, c: Control) -> Core
+    ensures { λ r. ⌜ r ≡ withControl k c ⌝ }
+{
+    let mut d = k;
+    d.control = c;
+    d
+}
+
+// The core after an act: a mode request is carried out last.
+pub fn apply(x: Act, k: Core) -> Core
+    ensures { λ r. ⌜ r ≡ acted x k ⌝ }
+{
+    let c = k.control;
+    match x {
+        Act::Rest => settle(k),
+        Act::ResetAll => settle(registers::reset(k)),
+        Act::Fetch(_) => settle(k),
+        Act::Store(a, b) => settle(registers::store(k, a, b)),
+        Act::Modify(a, m, b) => settle(registers::modify(k, a, m, b)),
+        Act::RequestToSend(m) => settle(with_control(k, registers::request_to_send(c, m))),
+        Act::ClearFlag(n) => settle(with_control(k, clear_flag(c, n))),
+        Act::FetchStatus => settle(k),
+        Act::FetchRxStatus => settle(k),
+        Act::Refuse(_) => k,
+    }
+}
+
+pub fn refusal_of(x: Act) -> u8
+    ensures { λ r. ⌜ r ≡ refusalOf x ⌝ }
+{
+    match x {
+        Act::Rest => 0,
+        Act::ResetAll => 0,
+        Act::Fetch(_) => 0,
+        Act::Store(_, _) => 0,
+        Act::Modify(_, _, _) => 0,
+        Act::RequestToSend(_) => 0,
+        Act::ClearFlag(_) => 0,
+        Act::FetchStatus => 0,
+        Act::FetchRxStatus => 0,
+        Act::Refuse(n) => n,
+    }
+}
