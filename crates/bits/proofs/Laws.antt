@@ -1,11 +1,11 @@
 -- The bits of a byte that was set, cleared or merged. Assumes nothing.
 use mathlib.Core.Path.{_≡_, refl, ap, _∙_, sym}
-use mathlib.Core.Bool.{Bool, true, false, cond, _||_}
+use mathlib.Core.Bool.{Bool, true, false, cond, _&&_, _||_}
 use Prim.Native.Nat.{ℕ, zero, suc, _+_, _-_, _*_, _/_, _%_, _^_, _≤_, _<_, min, max}
 use native.Mathlib.Omega.{arith}
 use lib.Dec.{T, eqb, ltb, eqb→eq, ltb→lt}
-use borrow.Author.Tests.{ne-eqb}
-use lib.Bits.{bitAnd, bitOr, and-step, or-step, and-shr, or-shr}
+use borrow.Author.Tests.{ne-eqb, eqb-true, eqb-false}
+use lib.Bits.{bitAnd, bitOr, and-step, or-step, and-shr, or-shr, and-le-l, and-le-r, or-add-and}
 use Rattle.bits.specs.Bit.{bit, hasBit, powerOf, setBit, clearBit, merged}
 use Rattle.bits.proofs.All.{every, every²}
 
@@ -70,3 +70,18 @@ pub bit-merged : (m o n k : ℕ) → m < 256 → k < 8 → bit (merged m o n) k 
 bit-merged m o n k hm hk =
     rw (bit-or (bitAnd o (255 - m)) (bitAnd n m) k, bit-and o (255 - m) k, bit-and n m k, bit-complement m k hm hk)
     (one-bit (bit m k) (bit o k) (bit n k) (omega arith) (omega arith) (omega arith))
+
+-- two numbers are 0 where their OR is
+pub zero-or : (a b : ℕ) → eqb (bitOr a b) 0 ≡ (eqb a 0 && eqb b 0)
+zero-or a b = go (eqb (bitOr a b) 0) refl (eqb a 0) refl (eqb b 0) refl
+  where
+    bounds : (a ≤ bitOr a b) × (b ≤ bitOr a b) × (bitOr a b ≤ a + b)
+    bounds = (omega (arith, or-add-and a b, and-le-r a b), omega (arith, or-add-and a b, and-le-l a b), omega (arith, or-add-and a b))
+
+    go : (x : Bool) → eqb (bitOr a b) 0 ≡ x → (y : Bool) → eqb a 0 ≡ y → (z : Bool) → eqb b 0 ≡ z → eqb (bitOr a b) 0 ≡ (eqb a 0 && eqb b 0)
+    go true ex true ey true ez = rw (ex, ey, ez)
+    go true ex true ey false ez = absurd (eqb-false b 0 ez (omega (arith, bounds, eqb-true (bitOr a b) 0 ex)))
+    go true ex false ey z ez = absurd (eqb-false a 0 ey (omega (arith, bounds, eqb-true (bitOr a b) 0 ex)))
+    go false ex true ey true ez = absurd (eqb-false (bitOr a b) 0 ex (omega (arith, bounds, eqb-true a 0 ey, eqb-true b 0 ez)))
+    go false ex true ey false ez = rw (ex, ey, ez)
+    go false ex false ey z ez = rw (ex, ey)

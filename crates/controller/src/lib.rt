@@ -23,13 +23,13 @@ pub enum End {
 
 // An accepted event, before a mode request is carried out.
 pub struct Happened {
-    pub answer: u8,
     pub core: registers::Core,
+    pub answer: u8,
 }
 
 // An event, accepted or refused.
 pub struct Told {
+    pub core: registers::Core,
     pub refusal: u8,
     pub answer: u8,
-    pub core: registers::Core,
 }

@@ -31,7 +31,7 @@ use Rattle.controller.specs.declared.Told.{Told}
 use Rattle.controller.specs.declared.End.{End}
 use Rattle.controller.specs.declared.End.the-variants.{Sent, LostArbitration, Failed}
 use Rattle.controller.specs.Sending.{endOf, sentBy, frameAt, frameSent}
-use Rattle.controller.specs.Events.{ignored, goodFrame, wokenControl, answered, heardIn, heardOf, endsIn, endsBy, ended, idled, errorHeard, happensBy, eventRefusal, toldOf, refusedBy, eventOf}
+use Rattle.controller.specs.Events.{ignored, goodFrame, wokenControl, answered, heardIn, heardOf, endsIn, endsBy, ended, idled, happensBy, eventRefusal, toldOf, refusedBy, eventOf}
 use Rattle.spi.specs.declared.Act.the-variants.{Store}
 use Rattle.spi.specs.Instructions.{acted}
 use Rattle.mcp2515.specs.Moments.{isFree}
@@ -78,7 +78,7 @@ module _ (t : List ℕ) (k : Core) where
 
   module _ (same : (b : TxBuffer) → k .control .state .flight ≡ Of b → frameSent t b ≡ frameSent (k .tx) b) where
     happens-with : (q : Kind) (r : List ℕ) → happensBy q (withTxBytes k t) r ≡ happenedWith t (happensBy q k r)
-    unfolding heardOf idled ended errorHeard
+    unfolding heardOf idled ended
     happens-with SelectLow r = refl
     happens-with Exchange r = refl
     happens-with SelectHigh r = refl

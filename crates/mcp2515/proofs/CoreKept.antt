@@ -60,7 +60,7 @@ pub no-or : (x y : Bool) → x || y ≡ false → (x ≡ false) × (y ≡ false)
 no-or true y e = clash e
 no-or false y e = (refl, e)
 
-pub both : (x y : Bool) → x && y ≡ true → y ≡ true
+both : (x y : Bool) → x && y ≡ true → y ≡ true
 both true y e = e
 both false y e = clash (sym e)
 

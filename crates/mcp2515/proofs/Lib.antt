@@ -8,6 +8,7 @@ pub mod Swap
 pub mod Session
 pub mod Demand3
 pub mod Order
+pub mod Reached
 pub mod Refused
 pub mod Cases
 pub mod Examples

@@ -31,9 +31,9 @@ pub enum Select {
 
 // A step: the refusal (0 for none), the answer, and the chip after it.
 pub struct Stepped {
+    pub chip: Chip,
     pub refusal: u8,
     pub answer: u8,
-    pub chip: Chip,
 }
 
 pub fn power_on() -> Chip

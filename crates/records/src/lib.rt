@@ -89,24 +89,13 @@ pub fn is_event(k: Kind) -> bool
     }
 }
 
-// Bytes 2 to 15 are 0.
+// Bytes 2 to 15 are 0; one test of their OR.
 fn rest_zero(r: [u8; 16]) -> bool
     ensures { λ b. ⌜ b ≡ zeros r 2 14 ⌝ }
 {
-    (r[2] == 0)
-        & (r[3] == 0)
-        & (r[4] == 0)
-        & (r[5] == 0)
-        & (r[6] == 0)
-        & (r[7] == 0)
-        & (r[8] == 0)
-        & (r[9] == 0)
-        & (r[10] == 0)
-        & (r[11] == 0)
-        & (r[12] == 0)
-        & (r[13] == 0)
-        & (r[14] == 0)
-        & (r[15] == 0)
+    let low = r[2] | r[3] | r[4] | r[5] | r[6] | r[7] | r[8];
+    let all = low | r[9] | r[10] | r[11] | r[12] | r[13] | r[14] | r[15];
+    all == 0
 }
 
 // Four bytes, high byte first.

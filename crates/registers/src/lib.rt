@@ -112,10 +112,10 @@ pub struct Control {
 
 // The bytes of 00h to 2Fh (filters, masks, CNF, BFPCTRL, TXRTSCTRL), 30h to 5Fh (messages to send) and 60h to 7Fh (messages received).
 pub struct Core {
-    pub control: Control,
     pub config: [u8; 48],
     pub tx: [u8; 48],
     pub rx: [u8; 32],
+    pub control: Control,
 }
 
 // What lies at an address.

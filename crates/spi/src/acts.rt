@@ -2,15 +2,13 @@
 ghost use mathlib.Core.Path.{_≡_};
 ghost use mathlib.Core.Bool.{cond};
 ghost use lib.ListN.{getD};
-ghost use Prim.Native.Nat.{_%_};
+ghost use Prim.Native.Nat.{_-_, _*_, _%_};
 ghost use Rattle.registers.specs.State.{withCanintf, withControl};
 ghost use Rattle.controller.specs.Events.{settledCore};
 ghost use Rattle.spi.specs.Instructions.{
   statusOf,
   described,
   shownHit,
-  describedRxb0,
-  describedRxb1,
   rxStatusOf,
   replyTo,
   clearedOf,
@@ -55,22 +53,12 @@ fn shown_hit(h: u8) -> u8
     if n < 2 { n + 6 } else { n }
 }
 
-fn describe_rxb0(k: Core) -> u8
-    ensures { λ r. ⌜ r ≡ describedRxb0 k ⌝ }
+// SIDL of RXB0 where its flag is set, else of RXB1. The index is computed, so that the compiler keeps the bytes in one piece.
+fn sidl_of(k: Core, canintf: u8) -> u8
+    ensures { λ r. ⌜ r ≡ getD (k .rx) (18 - canintf % 2 * 16) 0 ⌝ }
 {
-    let c = k.control;
-    let ctrl = c.rx.rxb0;
-    let sidl = k.rx[2];
-    describe(ctrl, sidl, ctrl % 2)
-}
-
-fn describe_rxb1(k: Core) -> u8
-    ensures { λ r. ⌜ r ≡ describedRxb1 k ⌝ }
-{
-    let c = k.control;
-    let ctrl = c.rx.rxb1;
-    let sidl = k.rx[18];
-    describe(ctrl, sidl, shown_hit(ctrl))
+    let i = (18 - canintf % 2 * 16) as usize;
+    k.rx[i]
 }
 
 // RX STATUS.
@@ -79,10 +67,14 @@ fn rx_status(k: Core) -> u8
 {
     let c = k.control;
     let f = c.flags.canintf;
+    let x = c.rx.rxb0;
+    let y = c.rx.rxb1;
+    let sidl = sidl_of(k, f);
     let full0 = f % 2 == 1;
     let full1 = f / 2 % 2 == 1;
-    let other = bits::choose(full1, describe_rxb1(k), 0);
-    flag(full1, 128) | (flag(full0, 64) | bits::choose(full0, describe_rxb0(k), other))
+    let second = bits::choose(full1, describe(y, sidl, shown_hit(y)), 0);
+    let shown = bits::choose(full0, describe(x, sidl, x % 2), second);
+    flag(full1, 128) | (flag(full0, 64) | shown)
 }
 
 // The reply, sampled before the act.
