@@ -4,11 +4,11 @@ pub mod CoreKept
 pub mod CoreRegions
 pub mod CoreBytes
 pub mod CoreLaws
+pub mod Refused
 pub mod Swap
 pub mod Session
 pub mod Demand3
 pub mod Order
 pub mod Reached
-pub mod Refused
 pub mod Cases
 pub mod Examples

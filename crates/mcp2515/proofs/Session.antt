@@ -28,6 +28,7 @@ use Rattle.mcp2515.specs.declared.Stepped.{Stepped}
 use Rattle.mcp2515.specs.Step.{powerOn, askedBy, asked, turnedBy, turned, spiStep, eventStep, stepOf, Outcome, nextChip, outcome}
 use Rattle.mcp2515.specs.Moments.{Role, event, low, exchange, high, other, acceptedRole, roleOf, bytesFrom, most, momentOf, isFull, isFree, allowed, Demand3For}
 use Rattle.mcp2515.proofs.Facts.{Good, rxBase, txBase, RxByte, TxByte, CoreFacts}
+use Rattle.mcp2515.proofs.Refused.{exchange-accepted, high-accepted}
 use Rattle.mcp2515.proofs.Swap.{Stage, fresh, sofar, isOther, Event, roleAt, named, Swap, Laws, demand-3-by}
 
 clash : {A : Type 0} → true ≡ false → A
@@ -126,47 +127,6 @@ still-calm k (ClearFlag n) e = clash (sym e)
 still-calm k FetchStatus e = clash (sym e)
 still-calm k FetchRxStatus e = clash (sym e)
 still-calm k (Refuse n) e = tt
-
--- Only what is refused has a refusal.
-first-taken : (m : Command) → refusalOf (firstAct m) ≡ 0
-first-taken Reset = refl
-first-taken Read = refl
-first-taken Write = refl
-first-taken BitModify = refl
-first-taken (ReadRxBuffer n a) = refl
-first-taken (LoadTxBuffer n a) = refl
-first-taken (Rts m) = refl
-first-taken ReadStatus = refl
-first-taken RxStatus = refl
-first-taken UnknownCode = refl
-
-exchange-taken : (i : Instruction) (x : ℕ) → refusalOf (exchangeAct i x) ≡ 0
-exchange-taken First x = first-taken (commandOf x)
-exchange-taken ReadAddress x = refl
-exchange-taken (Reading a) x = refl
-exchange-taken WriteAddress x = refl
-exchange-taken (Writing a) x = refl
-exchange-taken ModifyAddress x = refl
-exchange-taken (ModifyMask a) x = refl
-exchange-taken (ModifyData a m) x = refl
-exchange-taken (ReadingBuffer n a) x = refl
-exchange-taken StatusReply x = refl
-exchange-taken RxStatusReply x = refl
-exchange-taken Done x = refl
-
-high-taken : (i : Instruction) → refusalOf (highAct i) ≡ 0
-high-taken First = refl
-high-taken ReadAddress = refl
-high-taken (Reading a) = refl
-high-taken WriteAddress = refl
-high-taken (Writing a) = refl
-high-taken ModifyAddress = refl
-high-taken (ModifyMask a) = refl
-high-taken (ModifyData a m) = refl
-high-taken (ReadingBuffer n a) = refl
-high-taken StatusReply = refl
-high-taken RxStatusReply = refl
-high-taken Done = refl
 
 -- ---- how far a session has come: the open instruction, with j exchanges behind the first
 abbrev Come : Command → ℕ → Instruction → Type 0
@@ -357,9 +317,9 @@ other-step k i r h = go (kindOf r) refl (soundOf r) refl
     go : (κ : Kind) → kindOf r ≡ κ → (b : Bool) → soundOf r ≡ b → Goal
     go SelectLow e true s = refused (rw e) 1 (rw (s, e)) (rw (s, e))
     go SelectLow e false s = refused (rw e) 2 (rw s) (rw s)
-    go Exchange e true s = clash (sym (rw e at (taken (rw e) (rw (s, e) (exchange-taken i (byteAt r 1))))))
+    go Exchange e true s = clash (sym (rw e at (taken (rw e) (rw (s, e) (exchange-accepted i (byteAt r 1))))))
     go Exchange e false s = refused (rw e) 2 (rw s) (rw s)
-    go SelectHigh e true s = clash (sym (rw e at (taken (rw e) (rw (s, e) (high-taken i)))))
+    go SelectHigh e true s = clash (sym (rw e at (taken (rw e) (rw (s, e) (high-accepted i)))))
     go SelectHigh e false s = refused (rw e) 2 (rw s) (rw s)
     go FrameHeard e b s = clash (sym (rw e at h))
     go BusIdle e b s = clash (sym (rw e at h))
