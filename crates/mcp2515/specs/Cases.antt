@@ -76,12 +76,12 @@ abbrev pub lastOf : Outcome → List Outcome → Outcome
 lastOf o [] = o
 lastOf o (x ∷ xs) = lastOf x xs
 
-abbrev pub none : Outcome
-none = record { refusal = 0; answer = 0 }
+abbrev pub noOutcome : Outcome
+noOutcome = record { refusal = 0; answer = 0 }
 
 abbrev pub answerTo : Question → List (List ℕ) → ℕ
-answerTo lastAnswer rs = lastOf none (outcomes powerOn rs) .answer
-answerTo lastRefusal rs = lastOf none (outcomes powerOn rs) .refusal
+answerTo lastAnswer rs = lastOf noOutcome (outcomes powerOn rs) .answer
+answerTo lastRefusal rs = lastOf noOutcome (outcomes powerOn rs) .refusal
 answerTo (held a) rs = holds (chipAfter powerOn rs .core) a
 
 abbrev pub row : List (List ℕ) → Question → ℕ → Row
