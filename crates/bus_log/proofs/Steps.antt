@@ -9,7 +9,7 @@ use lib.Seq.{drop-drop, take-append-le, drop-append-le}
 use Rattle.mcp2515.specs.declared.Chip.{Chip}
 use Rattle.mcp2515.specs.declared.Stepped.{Stepped}
 use Rattle.mcp2515.specs.Step.{stepOf}
-use Rattle.bus_log.specs.Log.{recordSize, recordAt, stepsOf, chipAfter}
+use Rattle.bus_log.specs.Log.{recordSize, recordAt, stepsOf, lastChip}
 
 -- the record at a place of the log is the first of what is left there
 pub record-within : (log : List ℕ) (at : ℕ) → at + recordSize ≤ length log → recordAt log at ≡ take recordSize (drop at log)
@@ -39,8 +39,8 @@ empty (x ∷ l) h = absurd (omega arith)
 
 -- the steps of a log that is cut between two records: those of the first part, and those of the second over the chip that the first left
 pub steps-append : (k m : ℕ) (c : Chip) (a b : List ℕ) → length a ≡ k * recordSize
-    → stepsOf (k + m) c (a ++ b) ≡ stepsOf k c a ++ stepsOf m (chipAfter c (stepsOf k c a)) b
-unfolding stepsOf chipAfter
+    → stepsOf (k + m) c (a ++ b) ≡ stepsOf k c a ++ stepsOf m (lastChip c (stepsOf k c a)) b
+unfolding stepsOf lastChip
 steps-append zero m c a b h =
     let none : a ≡ [] = empty a (omega arith) in
     let same : 0 + m ≡ m = omega arith in
@@ -61,7 +61,7 @@ steps-prefix (suc k) c a b h =
     let rest : k * recordSize ≤ length (drop recordSize a) = rw length-drop (omega arith) in
     simp (take-append-le recordSize a b one, drop-append-le recordSize a b one, steps-prefix k (stepOf c (take recordSize a) .chip) (drop recordSize a) b rest)
 
-pub chip-append : (c : Chip) (ss ts : List Stepped) → chipAfter c (ss ++ ts) ≡ chipAfter (chipAfter c ss) ts
-unfolding chipAfter
+pub chip-append : (c : Chip) (ss ts : List Stepped) → lastChip c (ss ++ ts) ≡ lastChip (lastChip c ss) ts
+unfolding lastChip
 chip-append c [] ts = refl
 chip-append c (s ∷ ss) ts = chip-append (s .chip) ss ts

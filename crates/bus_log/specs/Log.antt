@@ -43,9 +43,9 @@ stepsOf (suc n) c log =
     stepOf c (take recordSize log) ∷ stepsOf n (stepOf c (take recordSize log) .chip) (drop recordSize log)
 
 -- the chip after some steps
-unfoldable pub chipAfter : Chip → List Stepped → Chip
-chipAfter c [] = c
-chipAfter c (s ∷ ss) = chipAfter (s .chip) ss
+unfoldable pub lastChip : Chip → List Stepped → Chip
+lastChip c [] = c
+lastChip c (s ∷ ss) = lastChip (s .chip) ss
 
 -- the answer bytes of some steps: refusal and answer of each
 unfoldable pub answersOf : List Stepped → List ℕ

@@ -13,8 +13,8 @@ abbrev pub answerRoom : ℕ → ℕ
 answerRoom n = 2 * n
 
 -- the refusal of a log of size bytes with room for so many answer bytes: 6, then 8, then 7, else 0
-unfoldable pub refusalOf : ℕ → ℕ → ℕ
-refusalOf size room =
+unfoldable pub runRefusal : ℕ → ℕ → ℕ
+runRefusal size room =
     cond (ltb 0 (size % recordSize)) lengthRefusal
     (cond (ltb maxRecords (recordsIn size)) countRefusal
     (cond (ltb room (answerRoom (recordsIn size))) roomRefusal 0))
@@ -22,10 +22,10 @@ refusalOf size room =
 -- the result of the run: the number of records, or minus the refusal
 unfoldable pub runResult : ℕ → ℕ → ℤ
 runResult size room =
-    cond (ltb 0 (refusalOf size room)) (negℤ (pos (refusalOf size room))) (pos (recordsIn size))
+    cond (ltb 0 (runRefusal size room)) (negℤ (pos (runRefusal size room))) (pos (recordsIn size))
 
 -- the answer buffer after the run: the answers and then what it held past them, or, refused, all that it held
 unfoldable pub runAnswers : List ℕ → List ℕ → List ℕ
 runAnswers log answers =
-    cond (ltb 0 (refusalOf (length log) (length answers))) answers
+    cond (ltb 0 (runRefusal (length log) (length answers))) answers
     (answersOf (stepsOf (recordsIn (length log)) powerOn log) ++ drop (answerRoom (recordsIn (length log))) answers)

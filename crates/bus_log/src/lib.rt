@@ -6,7 +6,7 @@ ghost use lib.ListN.{length, take, drop};
 ghost use lib.Seq.{sets};
 ghost use Rattle.mcp2515.specs.Step.{stepOf};
 ghost use Rattle.bus_log.specs.Log.{recordSize, recordAt, stepsOf, answersOf};
-ghost use Rattle.bus_log.specs.Run.{answerRoom, refusalOf, runResult, runAnswers};
+ghost use Rattle.bus_log.specs.Run.{answerRoom, runRefusal, runResult, runAnswers};
 use mcp2515::Chip;
 
 pub const RECORD_SIZE: usize = 16;
@@ -86,7 +86,7 @@ fn run_records(chip: Chip, log: &[u8], answers: &mut [u8], count: usize)
 
 // Why a log of size bytes, with room for so many answer bytes, is refused; 0 where it is not.
 fn run_refusal(size: usize, room: usize) -> u8
-    ensures { λ r. ⌜ r ≡ refusalOf size room ⌝ }
+    ensures { λ r. ⌜ r ≡ runRefusal size room ⌝ }
 {
     if size % RECORD_SIZE > 0 {
         return LENGTH_REFUSAL;

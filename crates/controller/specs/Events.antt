@@ -32,7 +32,7 @@ use Rattle.controller.specs.Sending.{choiceNumber, choiceOf, started, en
 abbrev pub ignored : Core → Received
 ignored k = record { core = k; answer = NotListening }
 
--- Sleep: if WAKIE is set, a frame wakes to Listen-Only with WAKIF, without storing
+-- under WAKIE the frame ends Sleep: the chip is in Listen-Only, WAKIF is set, nothing is stored
 abbrev pub wokenControl : Control → Control
 wokenControl c = withCanintf (entered c ListenOnly) (setBit (c .flags .canintf) WAKIF)
 
@@ -42,7 +42,7 @@ sleeping k =
     (record { core = withControl k (wokenControl (k .control)); answer = Woke })
     (ignored k)
 
--- in Normal a good frame heard, matched or not, moves REC
+-- in Normal REC moves on each good frame, whether a filter takes it or none does
 abbrev pub goodFrame : Core → Frame → Received
 goodFrame k f =
     record {
@@ -50,7 +50,7 @@ goodFrame k f =
       answer = receivedOf k f .answer;
     }
 
--- no listening in Configuration, Loopback, bus-off or unwoken Sleep
+-- Normal and Listen-Only hear, unless bus-off; in Sleep a frame can only wake; Loopback and Configuration are deaf
 abbrev pub heardIn : Mode → Core → Frame → Received
 heardIn Normal k f = cond (isBusOff (k .control .counters)) (ignored k) (goodFrame k f)
 heardIn Sleep k f = sleeping k
@@ -64,7 +64,7 @@ heardOf k f = heardIn (k .control .state .mode) k f
 abbrev pub answered : Received → Happened
 answered h = record { answer = receptionNumber (h .answer); core = h .core }
 
--- ---- kind 5: an own frame ends. Loopback delivers a sent frame to its own receive rules and moves no counter
+-- ---- kind 5: an own frame ends. Sent in Loopback, it comes back in by the receive rules, and no counter moves
 abbrev pub delivered : Core → TxBuffer → Happened
 delivered k b = answered (receivedOf (withControl k (sentBy (k .control) b)) (frameSent (k .tx) b))
 
@@ -88,7 +88,7 @@ ended k n = endsBy (k .control .state .flight) k (endOf n)
 unfoldable pub idled : Core → Happened
 idled k = record { answer = choiceNumber (choiceOf (k .control)); core = withControl k (started (choiceOf (k .control)) (k .control)) }
 
--- byte 1: 0 adds 1, 1 adds 8; MERRF; outside Normal and in bus-off nothing
+-- REC grows by 1 where byte 1 is 0, by 8 where it is 1; MERRF; outside Normal and in bus-off nothing
 abbrev pub errorAdds : ℕ → ℕ
 errorAdds n = cond (eqb n 0) 1 8
 
@@ -117,17 +117,17 @@ happensBy ReceiveError k r = quiet k (errorHeard (k .control) (byteAt r 1))
 happensBy Recovery k r = quiet k (recovered (k .control))
 happensBy Unknown k r = record { answer = 0; core = k }
 
--- ---- refusals 3, 4 and 5, where refusal 2 does not name the record; a record that is no event is refused as a field
+-- ---- refusals 3, 4 and 5, where refusal 2 does not name the record; any record but an event is refused as a field
 abbrev pub busyRefusal : Control → ℕ
 busyRefusal c = cond (isIdle (c .state .flight)) accepted refusedInFlight
 
--- kind 5 with none in flight; outcome 1 or 2 in Loopback
+-- an end with no flight to end; in Loopback, an end other than sent
 abbrev pub endRefusal : Control → ℕ → ℕ
 endRefusal c n =
     cond (isIdle (c .state .flight)) refusedNoFlight
     (cond (isLoopback (c .state .mode) && not (eqb n 0)) refusedState accepted)
 
--- kind 7 when not bus-off
+-- a recovery with no bus-off to recover from
 abbrev pub recoveryRefusal : Control → ℕ
 recoveryRefusal c = cond (isBusOff (c .counters)) accepted refusedState
 

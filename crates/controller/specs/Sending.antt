@@ -32,14 +32,14 @@ choiceNumber Nobody = 3
 abbrev pub rankOf : ℕ → ℕ
 rankOf ctrl = cond (hasBit ctrl TXREQ) (1 + ctrl % 4) 0
 
--- the highest TXP goes, ties to the highest number
+-- the largest TXP wins; among equals, the buffer numbered highest
 abbrev pub bestBy : ℕ → ℕ → ℕ → TxBuffer
 bestBy x y z = cond (leb (max x y) z) Txb2 (cond (leb x y) Txb1 Txb0)
 
 unfoldable pub bestOf : TxControl → TxBuffer
 bestOf t = bestBy (rankOf (t .txb0)) (rankOf (t .txb1)) (rankOf (t .txb2))
 
--- in Normal or Loopback and not bus-off
+-- Normal and Loopback send, unless the chip is bus-off
 abbrev pub maySend : Control → Bool
 maySend c = sendsIn (c .state .mode) && not (isBusOff (c .counters))
 
@@ -51,7 +51,7 @@ started (Send b) c = withFlight c (Of b)
 started Nobody c = c
 
 -- ---- the ends
--- byte 1 of kind 5: 0 sent, 1 lost arbitration, 2 error
+-- by byte 1 of kind 5: sent is 0, lost arbitration 1, an error 2
 abbrev pub endOf : ℕ → End
 endOf n = cond (eqb n 0) Sent (cond (eqb n 1) LostArbitration Failed)
 
@@ -59,7 +59,8 @@ endOf n = cond (eqb n 0) Sent (cond (eqb n 1) LostArbitration Failed)
 abbrev pub counted : Control → Counters → Control
 counted c n = cond (isNormal (c .state .mode)) (movedTo c n) c
 
--- TXREQ stays unless OSM, or ABAT, which also sets ABTF
+-- TXREQ is kept for a retry, but OSM clears it, and so does ABAT, with ABTF set. One that the firmware cleared during the flight stays
+-- cleared: no retry follows unless it was set again
 unfoldable pub afterFailure : Control → ℕ → ℕ
 afterFailure c ctrl =
     cond (abortsAll c) (setBit (clearBit ctrl TXREQ) ABTF)
@@ -68,7 +69,7 @@ afterFailure c ctrl =
 abbrev pub withCtrl : Control → TxBuffer → ℕ → Control
 withCtrl c b v = withFlight (withTx c (withTxControl (c .tx) b v)) Idle
 
--- sent: TXREQ clear, TXnIF
+-- a sent frame drops its TXREQ and raises TXnIF
 unfoldable pub sentBy : Control → TxBuffer → Control
 sentBy c b = withCanintf (withCtrl c b (clearBit (txControl (c .tx) b) TXREQ)) (setBit (c .flags .canintf) (txFlag b))
 
@@ -76,18 +77,18 @@ sentBy c b = withCanintf (withCtrl c b (clearBit (txControl (c .tx) b) TXREQ)) (
 unfoldable pub lostBy : Control → TxBuffer → Control
 lostBy c b = withCtrl c b (afterFailure c (setBit (txControl (c .tx) b) MLOA))
 
--- an error sets TXERR and MERRF
+-- an error leaves TXERR in TXBnCTRL and MERRF in CANINTF
 unfoldable pub failedBy : Control → TxBuffer → Control
 failedBy c b = withCanintf (withCtrl c b (afterFailure c (setBit (txControl (c .tx) b) TXERR))) (setBit (c .flags .canintf) MERRF)
 
--- sent: TEC less 1; error: plus 8
+-- a sent frame takes 1 from TEC, a failed one adds 8
 abbrev pub endedBy : End → Control → TxBuffer → Control
 endedBy Sent c b = counted (sentBy c b) (tecLess (c .counters))
 endedBy LostArbitration c b = lostBy c b
 endedBy Failed c b = counted (failedBy c b) (tecMore (c .counters))
 
 -- ---- the frame that a buffer sends
--- a length code of 9 to 15 goes out as 8
+-- the length sent: the code, but never above 8
 abbrev pub lengthSent : ℕ → ℕ
 lengthSent code = min code 8
 

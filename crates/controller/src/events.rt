@@ -50,21 +50,18 @@ use crate::sending::sent;
 use crate::sending::start;
 use receiving::Received;
 use receiving::Reception;
+use records::ACCEPTED;
 use records::Frame;
 use records::Kind;
+use records::REFUSED_FIELD;
+use records::REFUSED_IN_FLIGHT;
+use records::REFUSED_NO_FLIGHT;
+use records::REFUSED_STATE;
 use registers::Control;
 use registers::Core;
 use registers::Flight;
 use registers::Mode;
 use registers::TxBuffer;
-
-fn with_control(k: Core, c: Control) -> Core
-    ensures { λ r. ⌜ r ≡ withControl k c ⌝ }
-{
-    let mut d = k;
-    d.control = c;
-    d
-}
 
 fn ignore(k: Core) -> Received
     ensures { λ r. ⌜ r ≡ ignored k ⌝ }
@@ -106,7 +103,7 @@ fn sleep(k: Core) -> Received
 {
     let c = k.control;
     if wakes(k) {
-        let d = with_control(k, wake(c));
+        let d = registers::with_control(k, wake(c));
         return Received {
             core: d,
             answer: Reception::Woke,
@@ -125,7 +122,7 @@ fn hear_good(k: Core, f: Frame) -> Received
     let d = got.core;
     let a = got.answer;
     let e = d.control;
-    let after = with_control(d, registers::moved(e, registers::rec_less(n)));
+    let after = registers::with_control(d, registers::moved(e, registers::rec_less(n)));
     Received {
         core: after,
         answer: a,
@@ -190,7 +187,7 @@ fn deliver(k: Core, b: TxBuffer) -> Happened
 {
     let c = k.control;
     let tx = k.tx;
-    let d = with_control(k, sent(c, b));
+    let d = registers::with_control(k, sent(c, b));
     answer(receiving::receive(d, frame_sent(tx, b)))
 }
 
@@ -198,7 +195,7 @@ fn finish(k: Core, b: TxBuffer, e: End) -> Happened
     ensures { λ r. ⌜ r ≡ finished k b e ⌝ }
 {
     let c = k.control;
-    let d = with_control(k, end(e, c, b));
+    let d = registers::with_control(k, end(e, c, b));
     Happened { answer: 0, core: d }
 }
 
@@ -249,7 +246,7 @@ fn idle(k: Core) -> Happened
     let c = k.control;
     let x = choice_of(c);
     let n = choice_number(x);
-    let d = with_control(k, start(x, c));
+    let d = registers::with_control(k, start(x, c));
     Happened { answer: n, core: d }
 }
 
@@ -300,7 +297,7 @@ fn recover(c: Control) -> Control
 fn quietly(k: Core, c: Control) -> Happened
     ensures { λ r. ⌜ r ≡ quiet k c ⌝ }
 {
-    let d = with_control(k, c);
+    let d = registers::with_control(k, c);
     Happened { answer: 0, core: d }
 }
 
@@ -334,7 +331,7 @@ fn is_idle(c: Control) -> bool
 fn refuse_busy(c: Control) -> u8
     ensures { λ r. ⌜ r ≡ busyRefusal c ⌝ }
 {
-    bits::choose(is_idle(c), 0, 3)
+    bits::choose(is_idle(c), ACCEPTED, REFUSED_IN_FLIGHT)
 }
 
 fn refuse_end(c: Control, n: u8) -> u8
@@ -343,29 +340,33 @@ fn refuse_end(c: Control, n: u8) -> u8
     let s = c.state;
     let m = s.mode;
     let loopback = registers::is_loopback(m);
-    bits::choose(is_idle(c), 4, bits::choose(loopback & (n != 0), 5, 0))
+    bits::choose(
+        is_idle(c),
+        REFUSED_NO_FLIGHT,
+        bits::choose(loopback & (n != 0), REFUSED_STATE, ACCEPTED),
+    )
 }
 
 fn refuse_recovery(c: Control) -> u8
     ensures { λ r. ⌜ r ≡ recoveryRefusal c ⌝ }
 {
     let n = c.counters;
-    bits::choose(registers::is_bus_off(n), 0, 5)
+    bits::choose(registers::is_bus_off(n), ACCEPTED, REFUSED_STATE)
 }
 
 fn refuse_by(g: Kind, c: Control, r: [u8; 16]) -> u8
     ensures { λ x. ⌜ x ≡ refusalBy g c r ⌝ }
 {
     match g {
-        Kind::SelectLow => 2,
-        Kind::Exchange => 2,
-        Kind::SelectHigh => 2,
+        Kind::SelectLow => REFUSED_FIELD,
+        Kind::Exchange => REFUSED_FIELD,
+        Kind::SelectHigh => REFUSED_FIELD,
         Kind::FrameHeard => refuse_busy(c),
         Kind::BusIdle => refuse_busy(c),
         Kind::FrameEnds => refuse_end(c, r[1]),
         Kind::ReceiveError => refuse_busy(c),
         Kind::Recovery => refuse_recovery(c),
-        Kind::Unknown => 2,
+        Kind::Unknown => REFUSED_FIELD,
     }
 }
 
@@ -375,7 +376,7 @@ fn refuse(c: Control, r: [u8; 16]) -> u8
     bits::choose(
         records::is_sound(r),
         refuse_by(records::kind_of(r), c, r),
-        2,
+        REFUSED_FIELD,
     )
 }
 
@@ -383,7 +384,7 @@ fn settle_core(k: Core) -> Core
     ensures { λ r. ⌜ r ≡ settledCore k ⌝ }
 {
     let c = k.control;
-    with_control(k, registers::settle(c))
+    registers::with_control(k, registers::settle(c))
 }
 
 fn tell(h: Happened) -> Told
@@ -392,7 +393,7 @@ fn tell(h: Happened) -> Told
     let d = h.core;
     let after = settle_core(d);
     Told {
-        refusal: 0,
+        refusal: ACCEPTED,
         answer: h.answer,
         core: after,
     }

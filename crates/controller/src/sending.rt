@@ -59,7 +59,7 @@ fn larger(a: u8, b: u8) -> u8
     if a <= b { b } else { a }
 }
 
-// By the ranks: ties to the highest number.
+// By the ranks; of equal ones the later buffer.
 fn best_by(x: u8, y: u8, z: u8) -> TxBuffer
     ensures { λ r. ⌜ r ≡ bestBy x y z ⌝ }
 {
@@ -163,13 +163,6 @@ fn count(c: Control, n: Counters) -> Control
     }
 }
 
-fn aborts_all(c: Control) -> bool
-    ensures { λ r. ⌜ r ≡ abortsAll c ⌝ }
-{
-    let x = c.flags.canctrl;
-    x / 16 % 2 == 1
-}
-
 fn is_one_shot(c: Control) -> bool
     ensures { λ r. ⌜ r ≡ hasBit (c .flags .canctrl) OSM ⌝ }
 {
@@ -182,7 +175,7 @@ fn after_failure(c: Control, ctrl: u8) -> u8
     ensures { λ r. ⌜ r ≡ afterFailure c ctrl ⌝ }
 {
     bits::choose(
-        aborts_all(c),
+        registers::aborts_all(c),
         (ctrl & 247) | 64,
         bits::choose(is_one_shot(c), ctrl & 247, ctrl),
     )

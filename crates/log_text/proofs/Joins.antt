@@ -9,14 +9,14 @@ use lib.Dec.{ltb}
 use lib.ListN.{length, length-append}
 use Rattle.mcp2515.specs.declared.Chip.{Chip}
 use Rattle.mcp2515.specs.declared.Stepped.{Stepped}
-use Rattle.bus_log.specs.Log.{recordSize, recordsIn, stepsOf, chipAfter}
+use Rattle.bus_log.specs.Log.{recordSize, recordsIn, stepsOf, lastChip}
 use Rattle.bus_log.proofs.Steps.{length-steps, steps-append, steps-prefix, chip-append}
-use Rattle.log_text.specs.Stretch.{recordsLeft, runIn, endRefusal, endLine, replayed, replayOf, andThen, followedBy, StretchesJoin}
+use Rattle.log_text.specs.Stretch.{recordsLeft, runIn, stretchRefusal, endLine, replayed, replayOf, andThen, followedBy, StretchesJoin}
 use Rattle.log_text.proofs.Lines.{lines-append}
 
 -- steps with no refusal, and then others
 replayed-append : (c : Chip) (n : ℕ) (ss ts : List Stepped) (r : ℕ)
-    → replayed c n (ss ++ ts) r ≡ andThen (replayed c n ss 0) (replayed (chipAfter c ss) (n + length ss) ts r)
+    → replayed c n (ss ++ ts) r ≡ andThen (replayed c n ss 0) (replayed (lastChip c ss) (n + length ss) ts r)
 unfolding endLine
 replayed-append c n ss ts r =
     let sum : n + (length ss + length ts) ≡ n + length ss + length ts = omega arith in
@@ -35,7 +35,7 @@ module _ (c : Chip) (n : ℕ) (a b : List ℕ) (cut : length a % recordSize ≡ 
 
   -- the limit lies in the first stretch
   past : recordsLeft n < k → replayOf c n (a ++ b) ≡ followedBy (replayOf c n a) b
-  unfolding replayOf followedBy endRefusal
+  unfolding replayOf followedBy stretchRefusal
   past h =
       let more : recordsLeft n < recordsIn (length (a ++ b)) = rw length-append (omega arith) in
       let ran : runIn n (length (a ++ b)) ≡ recordsLeft n = omega arith in
@@ -45,12 +45,12 @@ module _ (c : Chip) (n : ℕ) (a b : List ℕ) (cut : length a % recordSize ≡ 
   abbrev first : List Stepped
   first = stepsOf k c a
 
-  refusal-first : k ≤ recordsLeft n → endRefusal n (length a) ≡ 0
-  unfolding endRefusal
+  refusal-first : k ≤ recordsLeft n → stretchRefusal n (length a) ≡ 0
+  unfolding stretchRefusal
   refusal-first h = simp (le-ltb (recordsLeft n) k h, le-ltb 0 (length a % recordSize) (omega arith))
 
-  refusal-both : k ≤ recordsLeft n → endRefusal n (length (a ++ b)) ≡ endRefusal (n + k) (length b)
-  unfolding endRefusal
+  refusal-both : k ≤ recordsLeft n → stretchRefusal n (length (a ++ b)) ≡ stretchRefusal (n + k) (length b)
+  unfolding stretchRefusal
   refusal-both h =
       let tail : (length a + length b) % recordSize ≡ length b % recordSize = omega arith in
       rw (length-append, tail, same-test (recordsLeft n) (recordsIn (length a + length b)) (recordsLeft (n + k)) (recordsIn (length b)) (λ x. omega arith) (λ x. omega arith))
@@ -64,7 +64,7 @@ module _ (c : Chip) (n : ℕ) (a b : List ℕ) (cut : length a % recordSize ≡ 
       let ran-a : runIn n (length a) ≡ k = omega arith in
       let size : length first ≡ k = length-steps k c a in
       rw (ran, refusal-both h, steps-append k m c a b (omega arith), ran-a, refusal-first h)
-      (replayed-append c n first (stepsOf m (chipAfter c first) b) (endRefusal (n + k) (length b)) ∙ rw size)
+      (replayed-append c n first (stepsOf m (lastChip c first) b) (stretchRefusal (n + k) (length b)) ∙ rw size)
 
   pub join : replayOf c n (a ++ b) ≡ followedBy (replayOf c n a) b
   join = go (ltb (recordsLeft n) k) refl

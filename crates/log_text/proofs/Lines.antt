@@ -8,7 +8,7 @@ use lib.ListN.{length, length-append, drop}
 use Rattle.mcp2515.specs.declared.Chip.{Chip}
 use Rattle.mcp2515.specs.declared.Stepped.{Stepped}
 use Rattle.mcp2515.specs.Step.{stepOf}
-use Rattle.bus_log.specs.Log.{recordSize, recordAt, stepsOf, chipAfter}
+use Rattle.bus_log.specs.Log.{recordSize, recordAt, stepsOf, lastChip}
 use Rattle.bus_log.proofs.Steps.{next-step}
 use Rattle.log_text.specs.Decimal.{decimalOf, decimalWithin}
 use Rattle.log_text.specs.Line.{fieldOf, lineOf, linesOf}
@@ -31,8 +31,8 @@ module _ (left n : ℕ) (c : Chip) (part : List ℕ) (at : ℕ) (s : Stepped) (m
   unfolding linesOf
   next-line = rw (next-step left c part at more fits, e)
 
-  pub next-chip : chipAfter c (stepsOf left c (drop at part)) ≡ chipAfter (s .chip) (stepsOf (left - 1) (s .chip) (drop (at + recordSize) part))
-  unfolding chipAfter
+  pub next-chip : lastChip c (stepsOf left c (drop at part)) ≡ lastChip (s .chip) (stepsOf (left - 1) (s .chip) (drop (at + recordSize) part))
+  unfolding lastChip
   next-chip = rw (next-step left c part at more fits, e)
 
 pub lines-append : (n : ℕ) (ss ts : List Stepped) → linesOf n (ss ++ ts) ≡ linesOf n ss ++ linesOf (n + length ss) ts

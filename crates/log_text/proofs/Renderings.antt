@@ -12,7 +12,7 @@ use Rattle.bus_log.proofs.Copy.{sets-first}
 use Rattle.bus_log.proofs.Steps.{length-steps}
 use Rattle.log_text.specs.declared.Rendered.{Rendered}
 use Rattle.log_text.specs.Line.{lineOf}
-use Rattle.log_text.specs.Stretch.{runIn, endRefusal, endLine, replayOf, lineRoom, stretchRoom, renderedOf, outputOf, Rendering}
+use Rattle.log_text.specs.Stretch.{runIn, stretchRefusal, endLine, replayOf, lineRoom, stretchRoom, renderedOf, outputOf, Rendering}
 use Rattle.log_text.specs.Storing.{Stored, Lined}
 use Rattle.log_text.proofs.Stores.{then-stored}
 use Rattle.log_text.proofs.Joins.{stretches-join}
@@ -49,7 +49,7 @@ module _ (c : Chip) (n : ℕ) (part out mid : List ℕ) (s : Rendered) (count : 
   ran = length-steps (runIn n (length part)) c part ∙ sym all
 
   -- the run goes on after the stretch: no line more
-  pub goes-on : endRefusal n (length part) ≡ 0 → Rendering c n part out mid s
+  pub goes-on : stretchRefusal n (length part) ≡ 0 → Rendering c n part out mid s
   unfolding replayOf endLine
   goes-on none =
       whole-text c n part out mid s room
@@ -60,7 +60,7 @@ module _ (c : Chip) (n : ℕ) (part out mid : List ℕ) (s : Rendered) (count : 
       (lines .chip ∙ rw all)
 
   -- the run ends in the stretch: one line more
-  pub ends : (after : List ℕ) (end r : ℕ) → r ≡ endRefusal n (length part) → 0 < r
+  pub ends : (after : List ℕ) (end r : ℕ) → r ≡ stretchRefusal n (length part) → 0 < r
       → Stored mid (s .len) (lineOf (s .number + 1) r 0) after end → end ≤ s .len + lineRoom
       → Rendering c n part out after (record { refusal = r; len = end; number = s .number; chip = s .chip })
   unfolding replayOf endLine

@@ -5,7 +5,7 @@ use Prim.Native.Nat.{ℕ, _+_, _*_, _≤_}
 use lib.ListN.{length}
 use lib.Seq.{sets}
 use Rattle.mcp2515.specs.declared.Chip.{Chip}
-use Rattle.bus_log.specs.Log.{stepsOf, chipAfter}
+use Rattle.bus_log.specs.Log.{stepsOf, lastChip}
 use Rattle.log_text.specs.declared.Rendered.{Rendered}
 use Rattle.log_text.specs.Line.{linesOf}
 use Rattle.log_text.specs.Stretch.{lineRoom}
@@ -21,4 +21,4 @@ pub record Lined (c : Chip) (n count : ℕ) (part before after : List ℕ) (r : 
   pub most : r .len ≤ count * lineRoom
   pub refusal : r .refusal ≡ 0
   pub number : r .number ≡ n + count
-  pub chip : r .chip ≡ chipAfter c (stepsOf count c part)
+  pub chip : r .chip ≡ lastChip c (stepsOf count c part)

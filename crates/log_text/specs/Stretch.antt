@@ -7,7 +7,7 @@ use lib.Dec.{ltb}
 use lib.ListN.{length, take, drop}
 use Rattle.mcp2515.specs.declared.Chip.{Chip}
 use Rattle.mcp2515.specs.declared.Stepped.{Stepped}
-use Rattle.bus_log.specs.Log.{recordSize, maxRecords, lengthRefusal, roomRefusal, countRefusal, recordsIn, stepsOf, chipAfter}
+use Rattle.bus_log.specs.Log.{recordSize, maxRecords, lengthRefusal, roomRefusal, countRefusal, recordsIn, stepsOf, lastChip}
 use Rattle.log_text.specs.declared.Rendered.{Rendered}
 use Rattle.log_text.specs.Line.{lineOf, linesOf}
 
@@ -20,8 +20,8 @@ abbrev pub runIn : ℕ → ℕ → ℕ
 runIn number size = min (recordsIn size) (recordsLeft number)
 
 -- the refusal that ends the run in a stretch: 8 at a whole record past the limit, else 6 at a short last record, else 0
-unfoldable pub endRefusal : ℕ → ℕ → ℕ
-endRefusal number size =
+unfoldable pub stretchRefusal : ℕ → ℕ → ℕ
+stretchRefusal number size =
     cond (ltb (recordsLeft number) (recordsIn size)) countRefusal
     (cond (ltb 0 (size % recordSize)) lengthRefusal 0)
 
@@ -43,13 +43,13 @@ replayed c number steps refusal =
       text = linesOf number steps ++ endLine (number + length steps + 1) refusal;
       refusal = refusal;
       number = number + length steps;
-      chip = chipAfter c steps;
+      chip = lastChip c steps;
     }
 
 -- the replay of a stretch
 unfoldable pub replayOf : Chip → ℕ → List ℕ → Replay
 replayOf c number part =
-    replayed c number (stepsOf (runIn number (length part)) c part) (endRefusal number (length part))
+    replayed c number (stepsOf (runIn number (length part)) c part) (stretchRefusal number (length part))
 
 -- a replay and then another: the texts one after the other, and what the second leaves
 abbrev pub andThen : Replay → Replay → Replay

@@ -6,7 +6,7 @@ ghost use lib.ListN.{length};
 ghost use Rattle.bus_log.specs.Log.{recordSize};
 ghost use Rattle.log_text.specs.Decimal.{decimalOf};
 ghost use Rattle.log_text.specs.Line.{fieldOf, lineOf};
-ghost use Rattle.log_text.specs.Stretch.{lineRoom, recordsLeft, endRefusal, Rendering};
+ghost use Rattle.log_text.specs.Stretch.{lineRoom, recordsLeft, stretchRefusal, Rendering};
 ghost use Rattle.log_text.specs.Storing.{Stored, Lined};
 use bus_log::COUNT_REFUSAL;
 use bus_log::LENGTH_REFUSAL;
@@ -108,7 +108,7 @@ fn least(a: usize, b: usize) -> usize
 // The refusal that ends the run in a stretch of size bytes, or 0. Past the limit only a whole record is
 // one too many; a short one is short.
 fn end_refusal(number: u32, size: usize) -> u8
-    ensures { λ r. ⌜ r ≡ endRefusal number size ⌝ }
+    ensures { λ r. ⌜ r ≡ stretchRefusal number size ⌝ }
 {
     if records_left(number) < size / RECORD_SIZE {
         return COUNT_REFUSAL;

@@ -35,7 +35,7 @@ use Rattle.controller.specs.Events.{ignored, goodFrame, wokenControl, answered,
 use Rattle.spi.specs.declared.Act.the-variants.{Store}
 use Rattle.spi.specs.Instructions.{acted}
 use Rattle.mcp2515.specs.Moments.{isFree}
-use Rattle.mcp2515.proofs.Facts.{Good, TxByte}
+use Rattle.mcp2515.proofs.CoreFacts.{Good, TxByte}
 use Rattle.mcp2515.proofs.CoreKept.{no-or}
 use Rattle.mcp2515.proofs.CoreRegions.{base-number, number-small, tx-region}
 

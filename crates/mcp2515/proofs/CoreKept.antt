@@ -46,7 +46,7 @@ use Rattle.controller.specs.declared.End.the-variants.{Sent, LostArbitration, F
 use Rattle.controller.specs.Sending.{rankOf, bestOf, choiceOf, endOf, started, maySend, afterFailure, counted, withCtrl, sentBy, lostBy, failedBy, endedBy, frameSent}
 use Rattle.controller.specs.Events.{wokenControl, heardIn, heardOf, endsIn, endsBy, ended, idled, errorAdds, errorHeard, recovered, happensBy, eventRefusal, eventOf}
 use Rattle.mcp2515.specs.Moments.{isFull}
-use Rattle.mcp2515.proofs.Facts.{RxByte}
+use Rattle.mcp2515.proofs.CoreFacts.{RxByte}
 
 -- a fact of both values of a choice is one of the choice
 pub either : {A : Type 0} (P : A → Type 0) (b : Bool) {x y : A} → P x → P y → P (cond b x y)

@@ -14,7 +14,7 @@ use Rattle.controller.specs.Events.{eventOf}
 use Rattle.spi.specs.declared.Act.the-variants.{Store}
 use Rattle.spi.specs.Instructions.{acted}
 use Rattle.mcp2515.specs.Moments.{isFull, isFree}
-use Rattle.mcp2515.proofs.Facts.{Good, RxByte, TxByte, CoreFacts}
+use Rattle.mcp2515.proofs.CoreFacts.{Good, RxByte, TxByte, CoreFacts}
 use Rattle.mcp2515.proofs.CoreSettle.{good-power, good-acted, good-event}
 use Rattle.mcp2515.proofs.CoreKept.{event-kept}
 use Rattle.mcp2515.proofs.CoreRegions.{rx-reads}

@@ -14,7 +14,7 @@ use Rattle.registers.specs.declared.Region.the-variants.{TxMessage, RxMessage}
 use Rattle.registers.specs.declared.Core.{Core}
 use Rattle.registers.specs.State.{txNumber}
 use Rattle.registers.specs.Registers.{txAt, regionOf, holds, reads}
-use Rattle.mcp2515.proofs.Facts.{RxByte, txBase, TxByte}
+use Rattle.mcp2515.proofs.CoreFacts.{RxByte, txBase, TxByte}
 
 -- from 30h on, what is no control byte, CANSTAT or CANCTRL is a byte of a message
 message-region : (a : ℕ) → 0x30 ≤ a → a < 0x80 → 0 < a % 16 → a % 16 < 14 → regionOf (a % 128) ≡ cond (ltb a 0x60) (TxMessage (txAt a)) RxMessage

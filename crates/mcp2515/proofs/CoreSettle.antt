@@ -17,7 +17,7 @@ use Rattle.controller.specs.Events.{settledCore, toldOf, refusedBy, happensBy, 
 use Rattle.spi.specs.declared.Act.{Act}
 use Rattle.spi.specs.declared.Act.the-variants.{Rest, ResetAll, Fetch, Store, Modify, RequestToSend, ClearFlag, FetchStatus, FetchRxStatus, Refuse}
 use Rattle.spi.specs.Instructions.{clearedOf, acted}
-use Rattle.mcp2515.proofs.Facts.{Good}
+use Rattle.mcp2515.proofs.CoreFacts.{Good}
 
 settled-by : (q : Request) (c : Control) → c .state .request ≡ q → settled (settledBy q c) ≡ settledBy q c
 unfolding settled entered freeToChange

@@ -1,4 +1,4 @@
-pub mod Facts
+pub mod CoreFacts
 pub mod CoreSettle
 pub mod CoreKept
 pub mod CoreRegions

@@ -48,8 +48,8 @@ use Rattle.mcp2515.specs.declared.Chip.{Chip}
 use Rattle.mcp2515.specs.declared.Stepped.{Stepped}
 use Rattle.spi.specs.Instructions.{clearedOf, acted}
 use Rattle.mcp2515.specs.Step.{powerOn, asked, stepOf, nextChip, chipAfter}
-use Rattle.mcp2515.specs.Facts.{SettledReached, isPending, PendingReached, FlightReached, FilterKept, FiltersLocked, isWrite, FiltersWritten}
-use Rattle.mcp2515.proofs.Facts.{Good}
+use Rattle.mcp2515.specs.Runs.{SettledReached, isPending, PendingReached, FlightReached, FilterKept, FiltersLocked, isWrite, FiltersWritten}
+use Rattle.mcp2515.proofs.CoreFacts.{Good}
 use Rattle.mcp2515.proofs.CoreSettle.{good-power, good-acted, good-event}
 use Rattle.mcp2515.proofs.CoreKept.{either, clash, no-or, event-kept}
 

@@ -27,7 +27,7 @@ use Rattle.spi.specs.Instructions.{bufferCommand, commandOf, firstAct, opened, 
 use Rattle.mcp2515.specs.declared.Stepped.{Stepped}
 use Rattle.mcp2515.specs.Step.{powerOn, askedBy, asked, turnedBy, turned, spiStep, eventStep, stepOf, Outcome, nextChip, outcome}
 use Rattle.mcp2515.specs.Moments.{Role, event, low, exchange, high, other, acceptedRole, roleOf, bytesFrom, most, momentOf, isFull, isFree, allowed, Demand3For}
-use Rattle.mcp2515.proofs.Facts.{Good, rxBase, txBase, RxByte, TxByte, CoreFacts}
+use Rattle.mcp2515.proofs.CoreFacts.{Good, rxBase, txBase, RxByte, TxByte, CoreFacts}
 use Rattle.mcp2515.proofs.Refused.{exchange-accepted, high-accepted}
 use Rattle.mcp2515.proofs.Swap.{Stage, fresh, sofar, isOther, Event, roleAt, named, Swap, Laws, demand-3-by}
 

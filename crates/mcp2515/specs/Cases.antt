@@ -103,7 +103,7 @@ table =
     -- W2: a filter write in Normal is not kept
     ∷ row (normal ++ write 0x00 0x20 ++ configuration ++ readsAt 0x00) lastAnswer 0x00
     ∷ row (write 0x00 0x11 ++ normal ++ write 0x00 0x20 ++ configuration ++ readsAt 0x00) lastAnswer 0x11
-    -- W3: ties go to the highest number; the highest TXP goes
+    -- W3: at equal TXP the last buffer is sent; a larger TXP comes first
     ∷ row (normal ++ command 0x85 ++ (idle ∷ [])) lastAnswer 2
     ∷ row (write 0x30 0x01 ++ normal ++ command 0x85 ++ (idle ∷ [])) lastAnswer 0
     -- W4: standard 123h
@@ -118,10 +118,10 @@ table =
     ∷ row (write 0x2C 0x03 ++ modify 0x2C 0x01 0x00) (held 0x2C) 0x02
     -- W7: BIT MODIFY of a data byte takes no mask
     ∷ row (write 0x36 0x0F ++ modify 0x36 0xF0 0xA5) (held 0x36) 0xA5
-    -- W8: two hits, no rollover
+    -- W8: a second hit with BUKT clear
     ∷ row (anyFrame ++ normal ++ (frame 0 0x123 ∷ frame 0 0x123 ∷ [])) (held 0x2D) 0x40
     ∷ row (anyFrame ++ normal ++ (frame 0 0x123 ∷ frame 0 0x123 ∷ [])) (held 0x2C) 0x21
-    -- W9: rollover, third hit
+    -- W9: a third hit with BUKT set
     ∷ row (rollover ++ (frame 0 0x7FF ∷ frame 0 0x7FF ∷ frame 0 0x7FF ∷ [])) (held 0x2D) 0x80
     -- W10: RXB1 alone full, with a rolled standard data frame of filter 1
     ∷ row (rollover ++ (frame 0 0x7FF ∷ frame 0 0x7FF ∷ []) ++ modify 0x2C 0x01 0x00 ++ asks 0xB0) lastAnswer 0x87

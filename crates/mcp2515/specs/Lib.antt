@@ -1,5 +1,5 @@
 pub mod Step
 pub mod Moments
-pub mod Facts
+pub mod Runs
 pub mod Promise
 pub mod Cases

@@ -23,7 +23,7 @@ use Rattle.spi.specs.Instructions.{commandOf}
 use Rattle.mcp2515.specs.Step.{powerOn, Outcome, nextChip, outcome, chipAfter, outcomes}
 
 -- ---- what a record is in a run
--- an event (kinds 3 to 7, refused ones too); an accepted select low, exchange or select high; any other record is refused
+-- an event (kinds 3 to 7, accepted or not); a select low, a select high or an exchange, if accepted; any other record is refused
 pub data Role : Type 0 where
   event low exchange high other : Role
 
@@ -114,7 +114,7 @@ momentOf (ReadRxBuffer b a) = 1 + bytesFrom a
 momentOf (LoadTxBuffer b a) = 1 + bytesFrom a
 momentOf UnknownCode = 1
 
--- asked at select low: RXnIF set; TXREQ clear and not in flight
+-- asked at select low: that RXnIF is set; that the buffer neither has TXREQ nor is in flight
 abbrev pub isFull : Core → RxBuffer → Bool
 isFull k b = hasBit (k .control .flags .canintf) (rxFlag b)
 
@@ -162,8 +162,8 @@ unfoldable pub after : ℕ → List Entry → List Entry
 after k [] = []
 after k (x ∷ xs) = cond (isExchange (roleIn x)) (elim k [ zero ↦ x ∷ xs | suc j ↦ after j xs ]) (after k xs)
 
--- A session: its select low, what stands inside, its select high. Of a listed one the events before the moment go directly before
--- its select low and the others directly after its select high.
+-- A session: its select low, what stands inside, its select high. A listed one gives up its events: those before the moment move
+-- right ahead of select low, the others right behind select high.
 unfoldable pub placed : Option ℕ → Entry → List Entry → Entry → List Entry
 placed none l s h = l ∷ (s ++ (h ∷ []))
 placed (some k) l s h = events (before k s) ++ (l ∷ (others s ++ (h ∷ events (after k s))))

@@ -19,12 +19,12 @@ use Rattle.mcp2515.specs.declared.Chip.{Chip}
 use Rattle.mcp2515.specs.declared.Stepped.{Stepped}
 use Rattle.spi.specs.Instructions.{exchangeAct, exchangeNext, highAct, replyTo, acted, refusalOf}
 
--- power-on has select high
+-- at power-on the select is high
 unfoldable pub powerOn : Chip
 powerOn = record { core = powerOnCore; select = Raised }
 
 -- ---- the SPI side of a step
--- refusal 1: select low while low; exchange or select high while high
+-- refusal 1: lowering a select that is low, or exchanging over or raising one that is high
 abbrev pub askedBy : Kind → Select → ℕ → Act
 askedBy SelectLow Raised b = Rest
 askedBy SelectLow (Lowered i) b = Refuse refusedSelect
@@ -39,7 +39,7 @@ askedBy ReceiveError s b = Refuse refusedField
 askedBy Recovery s b = Refuse refusedField
 askedBy Unknown s b = Refuse refusedField
 
--- refusal 2 is tested first
+-- refusal 2 comes before refusal 1
 unfoldable pub asked : Select → List ℕ → Act
 asked s r = cond (soundOf r) (askedBy (kindOf r) s (byteAt r 1)) (Refuse refusedField)
 
@@ -79,7 +79,7 @@ eventStep c r =
 unfoldable pub stepOf : Chip → List ℕ → Stepped
 stepOf c r = cond (isEvent (kindOf r)) (eventStep c r) (spiStep c r)
 
--- ---- the run of a list: each step gets the chip that the last one gave back
+-- ---- the run of a list: the chip is handed on from step to step
 pub record Outcome : Type 0 where
   pub refusal : ℕ
   pub answer : ℕ

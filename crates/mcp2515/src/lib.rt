@@ -1,4 +1,4 @@
-// The stand-in for an MCP2515 seen from its SPI bytes and from whole bus events.
+// The chip as its SPI master and its bus see it: one record in, one step.
 ghost use mathlib.Core.Path.{_≡_};
 ghost use Rattle.registers.specs.Registers.{holds, reads, intIsLow};
 ghost use Rattle.mcp2515.specs.Step.{
@@ -15,6 +15,8 @@ ghost use Rattle.mcp2515.specs.Promise.{Stepping};
 ghost use Rattle.records.specs.Records.{refusedField, kindOf, isEvent};
 ghost use mathlib.Core.Bool.{cond};
 use records::Kind;
+use records::REFUSED_FIELD;
+use records::REFUSED_SELECT;
 use spi::Act;
 use spi::Instruction;
 
@@ -76,7 +78,7 @@ fn ask_low(s: Select, b: u8) -> Act
 {
     match s {
         Select::Raised => Act::Rest,
-        Select::Lowered(_) => Act::Refuse(1),
+        Select::Lowered(_) => Act::Refuse(REFUSED_SELECT),
     }
 }
 
@@ -84,7 +86,7 @@ fn ask_exchange(s: Select, b: u8) -> Act
     ensures { λ r. ⌜ r ≡ askedBy Kind.Exchange s b ⌝ }
 {
     match s {
-        Select::Raised => Act::Refuse(1),
+        Select::Raised => Act::Refuse(REFUSED_SELECT),
         Select::Lowered(i) => spi::exchange_act(i, b),
     }
 }
@@ -93,7 +95,7 @@ fn ask_high(s: Select, b: u8) -> Act
     ensures { λ r. ⌜ r ≡ askedBy Kind.SelectHigh s b ⌝ }
 {
     match s {
-        Select::Raised => Act::Refuse(1),
+        Select::Raised => Act::Refuse(REFUSED_SELECT),
         Select::Lowered(i) => spi::high_act(i),
     }
 }
@@ -105,12 +107,12 @@ fn ask_by(g: Kind, s: Select, b: u8) -> Act
         Kind::SelectLow => ask_low(s, b),
         Kind::Exchange => ask_exchange(s, b),
         Kind::SelectHigh => ask_high(s, b),
-        Kind::FrameHeard => Act::Refuse(2),
-        Kind::BusIdle => Act::Refuse(2),
-        Kind::FrameEnds => Act::Refuse(2),
-        Kind::ReceiveError => Act::Refuse(2),
-        Kind::Recovery => Act::Refuse(2),
-        Kind::Unknown => Act::Refuse(2),
+        Kind::FrameHeard => Act::Refuse(REFUSED_FIELD),
+        Kind::BusIdle => Act::Refuse(REFUSED_FIELD),
+        Kind::FrameEnds => Act::Refuse(REFUSED_FIELD),
+        Kind::ReceiveError => Act::Refuse(REFUSED_FIELD),
+        Kind::Recovery => Act::Refuse(REFUSED_FIELD),
+        Kind::Unknown => Act::Refuse(REFUSED_FIELD),
     }
 }
 
@@ -121,7 +123,7 @@ fn ask(sound: bool, g: Kind, s: Select, b: u8) -> Act
     if sound {
         ask_by(g, s, b)
     } else {
-        Act::Refuse(2)
+        Act::Refuse(REFUSED_FIELD)
     }
 }
 

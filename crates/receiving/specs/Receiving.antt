@@ -35,11 +35,11 @@ receptionNumber NotListening = 4
 receptionNumber Woke = 5
 
 -- ---- identifier to register bytes
--- standard: SIDH the top 8 bits, SIDL bits 7-5 the rest. Extended: these hold its top 11 bits, SIDL bits 1-0 the next two, EID8 and EID0 the rest
+-- a standard identifier fills SIDH, then SIDL bits 7-5; of an extended one they get bits 28 to 18, SIDL bits 1-0 get 17 and 16, EID8 and EID0 15 to 0
 abbrev pub sidhOf : Frame → ℕ
 sidhOf f = cond (f .extended) (f .identifier / 0x200000 % 256) (f .identifier / 8 % 256)
 
--- SIDL bit 3 extended, bit 4 standard remote
+-- in SIDL bit 3 marks an extended frame, bit 4 a remote standard one
 abbrev pub sidlOf : Frame → ℕ
 sidlOf f =
     cond (f .extended) (f .identifier / 0x40000 % 8 * 32 + 8 + f .identifier / 0x10000 % 4)
@@ -52,7 +52,7 @@ eid8Of f = cond (f .extended) (f .identifier / 0x100 % 256) 0
 abbrev pub eid0Of : Frame → ℕ
 eid0Of f = cond (f .extended) (f .identifier % 256) 0
 
--- DLC bit 6 extended remote
+-- bit 6 of DLC marks a remote extended frame
 abbrev pub dlcOf : Frame → ℕ
 dlcOf f = bitOr (f .length) (cond (f .extended && f .remote) 0x40 0)
 
@@ -61,7 +61,7 @@ abbrev pub carriedBy : Frame → ℕ
 carriedBy f = carried (f .remote) (f .length)
 
 -- ---- what a filter compares
--- the identifier; of a standard data frame also data bytes 0 and 1, where present, with EID8 and EID0. A reach of 0 compares nothing.
+-- the identifier; in a standard data frame EID8 and EID0 meet the first two data bytes, if it has them. A reach of 0 compares nothing.
 unfoldable pub keyOf : Frame → Key
 keyOf f =
     record {
@@ -75,7 +75,7 @@ keyOf f =
       reach3 = cond (f .extended || ltb 1 (carriedBy f)) 0xFF 0;
     }
 
--- filters 0 to 5 at 00, 04, 08, 10, 14, 18h; mask 0 for n below 2, else mask 1
+-- three filters in row 0 and three in row 1, four bytes each; filters 0 and 1 go with mask 0, the others with mask 1
 abbrev pub filterAt : ℕ → ℕ
 filterAt n = n / 3 * 16 + n % 3 * 4
 
@@ -85,7 +85,7 @@ maskAt n = cond (ltb n 2) 0x20 0x24
 abbrev pub sameAs : Bool → Bool → Bool
 sameAs x y = cond x y (not y)
 
--- filter n matches: SIDL bit 3 equals the extended bit and all masked bits agree
+-- filter n matches: the frame is extended just if SIDL bit 3 says so, and no bit under the mask differs
 unfoldable pub matches : List ℕ → Key → ℕ → Bool
 matches config q n =
     sameAs (q .extended) (hasBit (getD config (filterAt n + 1) 0) 3)
@@ -99,7 +99,7 @@ unfoldable pub lowestFrom : (ℕ → Bool) → ℕ → ℕ → Hit
 lowestFrom f i zero = Miss
 lowestFrom f i (suc n) = cond (f i) (Filter i) (lowestFrom f (suc i) n)
 
--- RXM 11 takes any frame with hit 0; other codes use filters
+-- at RXM 11 every frame comes in, as hit 0; at the other codes the filters decide
 abbrev pub takesAny : ℕ → Bool
 takesAny ctrl = eqb (ctrl / 32 % 4) 3
 
@@ -125,7 +125,7 @@ verdict0 c h =
     (cond (hasBit (c .rx .rxb0) BUKT) (cond (isFull1 c) Lost1 (RolledOver h)) Lost0)
     (Stored0 h)
 
--- only a frame unmatched for RXB0 is offered to RXB1; full means lost
+-- RXB1 is asked about a frame just where RXB0 does not match it; if RX1IF is set the frame is lost
 abbrev pub verdict1 : Control → Hit → Verdict
 verdict1 c Miss = Unmatched
 verdict1 c (Filter h) = cond (isFull1 c) Lost1 (Stored1 h)
@@ -156,7 +156,7 @@ rxStored0 r h remote = record { rxb0 = merged 0x09 (r .rxb0) (hitBits h remote);
 abbrev pub rxStored1 : RxControl → ℕ → Bool → RxControl
 rxStored1 r h remote = record { rxb0 = r .rxb0; rxb1 = merged 0x0F (r .rxb1) (hitBits h remote) }
 
--- a rolled frame keeps its hit, which RXB0CTRL bit 0 takes too
+-- a rolled frame shows its RXB0 hit in RXB1CTRL, and in bit 0 of RXB0CTRL as well
 abbrev pub rxRolled : RxControl → ℕ → Bool → RxControl
 rxRolled r h remote = record { rxb0 = merged 0x01 (r .rxb0) h; rxb1 = merged 0x0F (r .rxb1) (hitBits h remote) }
 
@@ -181,7 +181,7 @@ controlAfter (RolledOver h) c remote = flagged c (rxRolled (c .rx) h remote) RX1
 controlAfter Lost0 c remote = lostAt c RX0OVR
 controlAfter Lost1 c remote = lostAt c RX1OVR
 
--- the bytes of RXB0 lie from 0 on and those of RXB1 from 16 on, behind a control byte; data past the length, all eight if remote, keep old bytes
+-- the bytes of RXB0 lie from 0 on and those of RXB1 from 16 on, behind a control byte; data bytes that the frame does not carry stay as they were
 abbrev pub filled : List ℕ → ℕ → Frame → ℕ → List ℕ
 filled rx at f zero = rx
 filled rx at f (suc j) = updated (filled rx at f j) (at + 6 + j) (λ old. cond (ltb j (carriedBy f)) (getD (f .bytes) j 0) old)

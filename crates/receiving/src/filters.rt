@@ -43,7 +43,7 @@ fn is_match(config: [u8; 48], q: Key, n: u8) -> bool
     ide & a & b & c & d
 }
 
-// The lowest-numbered matching filter ends the look.
+// The look over filters first to end - 1: the first that matches is the answer.
 fn lowest(config: [u8; 48], q: Key, first: u8, end: u8) -> Hit
     requires { ⌜ (first ≤ end) × (end ≤ 6) ⌝ }
     ensures { λ r. ⌜ r ≡ lowestFrom (matches config q) first (end - first) ⌝ }

@@ -32,7 +32,7 @@ refusedState = 5
 abbrev pub byteAt : List ℕ → ℕ → ℕ
 byteAt r i = getD r i 0
 
--- Byte 0 is the kind.
+-- The kind stands in byte 0.
 abbrev pub kindBy : ℕ → Kind
 kindBy b =
     cond (eqb b 0) SelectLow
@@ -69,7 +69,7 @@ zeros r i (suc n) = zeros r i n && eqb (byteAt r (i + n)) 0
 abbrev pub identifierOf : List ℕ → ℕ
 identifierOf r = byteAt r 4 * 0x1000000 + byteAt r 5 * 0x10000 + byteAt r 6 * 0x100 + byteAt r 7
 
--- byte 1: bit 0 extended, bit 1 remote; byte 2 the length; bytes 8 to 15 the data
+-- extended and remote are bits 0 and 1 of byte 1, the length is byte 2, the data lie from byte 8 on
 unfoldable pub frameOf : List ℕ → Frame
 frameOf r =
     record {

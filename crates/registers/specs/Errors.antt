@@ -8,7 +8,7 @@ use Rattle.registers.specs.declared.Counters.{Counters}
 use Rattle.registers.specs.declared.Control.{Control}
 use Rattle.registers.specs.State.{ERRIF, withCounters, withCanintf}
 
--- TEC of 256 or more is bus-off.
+-- Bus-off begins where TEC reaches 256.
 abbrev pub isBusOff : Counters → Bool
 isBusOff n = leb 256 (n .tec)
 
@@ -26,14 +26,14 @@ errorFlags n =
 abbrev pub rises : ℕ → ℕ → Bool
 rises old new = not (eqb (bitAnd new (255 - old)) 0)
 
--- The counters move: ERRIF rises when one of the flags becomes 1.
+-- The counters move: a flag that turns from 0 to 1 raises ERRIF.
 unfoldable pub movedTo : Control → Counters → Control
 movedTo c n =
     withCanintf (withCounters c n)
     (cond (rises (errorFlags (c .counters)) (errorFlags n)) (setBit (c .flags .canintf) ERRIF) (c .flags .canintf))
 
 -- ---- how far a counter moves; neither falls below 0
--- TEC stops at 263, REC at 255
+-- the largest values: 263 for TEC, 255 for REC
 abbrev pub largestTec : ℕ
 largestTec = 263
 
@@ -46,7 +46,7 @@ tecLess n = record { tec = n .tec - 1; rec = n .rec }
 abbrev pub tecMore : Counters → Counters
 tecMore n = record { tec = min (n .tec + 8) largestTec; rec = n .rec }
 
--- a good frame: REC less 1, or to 127 if above 127
+-- a good frame: a REC of 128 or more drops to 127, any other falls by 1
 abbrev pub recLess : Counters → Counters
 recLess n = record { tec = n .tec; rec = cond (ltb 127 (n .rec)) 127 (n .rec - 1) }
 

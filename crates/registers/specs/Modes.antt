@@ -38,7 +38,7 @@ sendsIn Configuration = false
 abbrev pub waits : TxControl → Bool
 waits t = hasBit (t .txb0) TXREQ || hasBit (t .txb1) TXREQ || hasBit (t .txb2) TXREQ
 
--- Entering modes 3 and 4 clears TEC and REC.
+-- Both counters are zeroed on the way into Listen-Only and Configuration.
 abbrev pub countersIn : Mode → Counters → Counters
 countersIn Normal n = n
 countersIn Sleep n = n
@@ -49,7 +49,7 @@ countersIn Configuration n = noErrors
 unfoldable pub entered : Control → Mode → Control
 entered c m = withMode (withCounters c (countersIn m (c .counters))) m
 
--- A request can be carried out where the mode does not send, or no TXREQ and no flight remain.
+-- What frees a request: a mode that does not send, or neither a TXREQ nor a flight left.
 unfoldable pub freeToChange : Control → Bool
 freeToChange c = not (sendsIn (c .state .mode)) || (not (waits (c .tx)) && isIdle (c .state .flight))
 

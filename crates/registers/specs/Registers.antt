@@ -23,7 +23,7 @@ use Rattle.registers.specs.declared.Core.{Core}
 use Rattle.registers.specs.State.{RX0IF, RX1IF, TX0IF, TX1IF, TX2IF, ERRIF, WAKIF, modeNumber, isConfiguration, txControl}
 use Rattle.registers.specs.Errors.{errorFlags, noErrors}
 
--- ---- the address map; addresses count modulo 128
+-- ---- the address map; an address is taken modulo 128
 -- transmit buffers at 30h, 40h, 50h; receive buffers at 60h, 70h
 abbrev pub txAt : ℕ → TxBuffer
 txAt a = cond (ltb a 0x40) Txb0 (cond (ltb a 0x50) Txb1 Txb2)
@@ -47,14 +47,14 @@ maskRow a =
     (cond (eqb a 0x2B) Caninte
     (cond (eqb a 0x2C) Canintf Eflg)))
 
--- rows 3 to 5 and 6 to 7: a control byte, then SIDH, SIDL, EID8, EID0, DLC and eight data bytes
+-- rows 3 to 5 transmit, 6 and 7 receive: a control byte, the five from SIDH to DLC, and data bytes 0 to 7
 abbrev pub bufferRows : ℕ → Region
 bufferRows a =
     cond (ltb a 0x60)
     (cond (eqb (a % 16) 0) (TxCtrl (txAt a)) (TxMessage (txAt a)))
     (cond (eqb (a % 16) 0) (RxCtrl (rxAt a)) RxMessage)
 
--- CANSTAT and CANCTRL stand at every xEh and xFh
+-- each row ends in CANSTAT (xEh) and CANCTRL (xFh)
 unfoldable pub regionOf : ℕ → Region
 regionOf a =
     cond (eqb (a % 16) 14) Canstat
@@ -103,7 +103,7 @@ unfoldable pub writableOf : ℕ → ℕ
 writableOf a = writableIn (regionOf a) a
 
 -- ---- power-on and RESET
--- CANCTRL 87h, CANSTAT 80h (Configuration), the rest 0, no flight, no mode request
+-- mode Configuration, so CANSTAT 80h, and CANCTRL 87h; all else 0, nothing in flight and no mode wanted
 abbrev pub firstControl : Control
 firstControl =
     record {
@@ -125,11 +125,11 @@ resetCore k = record { control = firstControl; config = replicate 48 0; tx = rep
 abbrev pub sources : Flags → ℕ
 sources f = bitAnd (f .caninte) (f .canintf)
 
--- INT is low exactly when CANINTE and CANINTF share a bit
+-- the INT pin is low while a flagged source is enabled, and only then
 unfoldable pub intIsLow : Control → Bool
 intIsLow c = not (eqb (sources (c .flags)) 0)
 
--- bits 3-1: the lowest code enabled and flagged: 1 error, 2 wake, 3-5 TXB0-2, 6-7 RXB0-1, else 0
+-- bits 3-1: the first source in the order ERRIF, WAKIF, TX0IF to TX2IF, RX0IF, RX1IF gives 1 to 7; no such source, 0
 unfoldable pub interruptCode : ℕ → ℕ
 interruptCode s =
     cond (hasBit s ERRIF) 1
@@ -149,7 +149,7 @@ abbrev pub rxControl : RxControl → RxBuffer → ℕ
 rxControl r Rxb0 = r .rxb0
 rxControl r Rxb1 = r .rxb1
 
--- TEC of 256 or more reads 255; bits 5 to 0 of EFLG follow the counters. Bytes 00h to 2Fh and 30h to 5Fh lie at a % 48, 60h to 7Fh at a % 32.
+-- From 256 on TEC reads 255; bits 5 to 0 of EFLG follow the counters. Bytes 00h to 2Fh and 30h to 5Fh lie at a % 48, 60h to 7Fh at a % 32.
 abbrev pub holdsIn : Region → Core → ℕ → ℕ
 holdsIn Profile k a = getD (k .config) (a % 48) 0
 holdsIn Configured k a = getD (k .config) (a % 48) 0

@@ -189,6 +189,3 @@ withConfig k l = record { control = k .control; config = l; tx = k .tx; rx = k .
 
 abbrev pub withTxBytes : Core → List ℕ → Core
 withTxBytes k l = record { control = k .control; config = k .config; tx = l; rx = k .rx }
-
-abbrev pub withRxBytes : Core → List ℕ → Core
-withRxBytes k l = record { control = k .control; config = k .config; tx = k .tx; rx = l }

@@ -27,11 +27,11 @@ updated l i f = set l i (f (getD l i 0))
 abbrev pub abortsAll : Control → Bool
 abortsAll c = hasBit (c .flags .canctrl) ABAT
 
--- setting TXREQ from 0 clears ABTF, MLOA and TXERR
+-- a TXREQ that turns from 0 to 1 wipes bits 6 to 4: ABTF, MLOA and TXERR
 abbrev pub raisedFrom : ℕ → ℕ → ℕ
 raisedFrom old new = cond (not (hasBit old TXREQ) && hasBit new TXREQ) (bitAnd new 0x8F) new
 
--- while ABAT is set no TXREQ becomes 1: bit 3 of a clear one is not writable
+-- ABAT keeps a clear TXREQ clear: its bit 3 is then not writable
 abbrev pub txBits : Control → ℕ → ℕ
 txBits c old = cond (abortsAll c && not (hasBit old TXREQ)) (clearBit transmitBits TXREQ) transmitBits
 
@@ -55,7 +55,7 @@ requestedToSend c m =
     })
 
 -- ---- CANCTRL
--- ABAT clears every TXREQ not in flight and sets its ABTF
+-- under ABAT each buffer with TXREQ, but for one in flight, loses it and gets ABTF
 abbrev pub abortedAt : Control → TxBuffer → ℕ
 abortedAt c b =
     cond (hasBit (txControl (c .tx) b) TXREQ && not (inFlight (c .state .flight) b))
@@ -81,11 +81,11 @@ rxStored r Rxb0 v = record { rxb0 = copiesBukt (merged (receiveBits Rxb0) (r .rx
 rxStored r Rxb1 v = record { rxb0 = r .rxb0; rxb1 = merged (receiveBits Rxb1) (r .rxb1) v }
 
 -- ---- which writes are taken
--- TX bytes other than control take none while TXREQ is set or the buffer is in flight
+-- a TX buffer, but for its control byte, is closed to writes while it has TXREQ or is in flight
 abbrev pub isLocked : Control → TxBuffer → Bool
 isLocked c b = hasBit (txControl (c .tx) b) TXREQ || inFlight (c .state .flight) b
 
--- a byte of the filters, masks, CNF1-3 and TXRTSCTRL: only in Configuration
+-- a byte open only in Configuration: of a filter or mask, TXRTSCTRL or CNF1-3
 abbrev pub configStored : Core → ℕ → ℕ → Core
 configStored k a v = withConfig k (updated (k .config) (a % 48) (λ old. written (isConfiguration (k .control .state .mode)) (writableOf a) old v))
 
@@ -116,7 +116,7 @@ unfoldable pub stored : Core → ℕ → ℕ → Core
 stored k a v = storedIn (regionOf (a % 128)) k (a % 128) v
 
 -- ---- BIT MODIFY
--- the addresses 0C, 0D, xF, 28-2D, 30, 40, 50, 60, 70h take the mask; at every other it is FFh
+-- BFPCTRL, TXRTSCTRL, CANCTRL, 28h to 2Dh and each buffer's control byte take the mask; at every other address it is FFh
 unfoldable pub takesMask : ℕ → Bool
 takesMask a =
     eqb a 0x0C || eqb a 0x0D || eqb (a % 16) 15 || (ltb 0x27 a && ltb a 0x2E) || (ltb 0x2F a && ltb a 0x71 && eqb (a % 16) 0)

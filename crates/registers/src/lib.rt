@@ -26,6 +26,7 @@ pub use modes::mode_number;
 pub use modes::sends_in;
 pub use modes::settle;
 pub use modes::waits_in;
+pub use stores::aborts_all;
 pub use stores::in_flight;
 pub use stores::is_idle;
 pub use stores::is_locked;
@@ -35,6 +36,7 @@ pub use stores::same_tx;
 pub use stores::store;
 pub use stores::tx_control;
 pub use stores::tx_number;
+pub use stores::with_control;
 pub use stores::with_tx_control;
 pub use stores::writable;
 
@@ -118,7 +120,8 @@ pub struct Core {
     pub control: Control,
 }
 
-// What lies at an address.
+// What lies at an address. Profile: filters and masks; Configured: CNF1-3 and TXRTSCTRL, which take writes in the same mode but
+// always read.
 pub enum Region {
     Profile,
     Configured,

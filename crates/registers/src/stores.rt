@@ -56,7 +56,7 @@ use crate::modes::is_configuration;
 use crate::modes::request_in;
 use crate::modes::with_request;
 
-// The writable bits of all 128 addresses.
+// What a write reaches at each address, by address.
 const WRITABLE: [u8; 128] = [
     255,
     235,
@@ -273,14 +273,14 @@ fn has_txreq(x: u8) -> bool
     x / 8 % 2 == 1
 }
 
-fn aborts_all(c: Control) -> bool
+pub fn aborts_all(c: Control) -> bool
     ensures { λ r. ⌜ r ≡ abortsAll c ⌝ }
 {
     let x = c.flags.canctrl;
     x / 16 % 2 == 1
 }
 
-// A new TXBnCTRL: setting TXREQ from 0 clears ABTF, MLOA and TXERR.
+// A new TXBnCTRL: where TXREQ rises, the flags of the last attempt go.
 fn raised_from(old: u8, new: u8) -> u8
     ensures { λ r. ⌜ r ≡ raisedFrom old new ⌝ }
 {
@@ -453,7 +453,7 @@ fn store_message(k: Core, b: TxBuffer, a: u8, v: u8) -> Core
     d
 }
 
-fn with_control(k: Core, c: Control) -> Core
+pub fn with_control(k: Core, c: Control) -> Core
     ensures { λ r. ⌜ r ≡ withControl k c ⌝ }
 {
     let mut d = k;

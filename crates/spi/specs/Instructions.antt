@@ -23,7 +23,7 @@ use Rattle.spi.specs.declared.Act.{Act}
 use Rattle.spi.specs.declared.Act.the-variants.{Rest, ResetAll, Fetch, Store, Modify, RequestToSend, ClearFlag, FetchStatus, FetchRxStatus, Refuse}
 
 -- ---- the codes
--- READ RX BUFFER from 61, 66, 71, 76h; LOAD TX BUFFER from 31, 36, 41, 46, 51, 56h
+-- READ RX BUFFER and LOAD TX BUFFER begin at SIDH or at data byte 0 of a buffer
 unfoldable pub bufferCommand : ℕ → Command
 bufferCommand b =
     cond (eqb b 0x90) (ReadRxBuffer Rxb0 0x61)
@@ -37,7 +37,7 @@ bufferCommand b =
     (cond (eqb b 0x44) (LoadTxBuffer Txb2 0x51)
     (cond (eqb b 0x45) (LoadTxBuffer Txb2 0x56) UnknownCode)))))))))
 
--- 80h plus bits 0-2 is RTS for TXB0-2
+-- 80h to 87h are RTS: bits 2-0 pick the buffers TXB2 to TXB0
 unfoldable pub commandOf : ℕ → Command
 commandOf b =
     cond (eqb (b / 8) 16) (Rts (b % 8))
@@ -48,7 +48,7 @@ commandOf b =
     (cond (eqb b 0xA0) ReadStatus
     (cond (eqb b 0xB0) RxStatus (bufferCommand b)))))))
 
--- ---- the first byte: RESET and RTS act on it
+-- ---- the first byte, at which RESET and RTS act
 abbrev pub firstAct : Command → Act
 firstAct Reset = ResetAll
 firstAct Read = Rest
@@ -61,7 +61,7 @@ firstAct ReadStatus = Rest
 firstAct RxStatus = Rest
 firstAct UnknownCode = Rest
 
--- READ RX BUFFER goes on as READ but for its end; LOAD TX BUFFER goes on as WRITE
+-- READ RX BUFFER goes on as READ but for its end; LOAD TX BUFFER goes on as WRITE; after RESET the select is still low, with nothing open to do
 abbrev pub opened : Command → Instruction
 opened Reset = Done
 opened Read = ReadAddress
@@ -74,11 +74,11 @@ opened ReadStatus = StatusReply
 opened RxStatus = RxStatusReply
 opened UnknownCode = Done
 
--- ---- an exchange; addresses count modulo 128
+-- ---- an exchange; an address is taken modulo 128
 abbrev pub rising : ℕ → ℕ
 rising a = (a % 128 + 1) % 128
 
--- WRITE takes each byte as it completes, BIT MODIFY acts on its data byte, a status repeats; bytes past an instruction's last do nothing
+-- WRITE stores byte by byte, BIT MODIFY waits for its data byte, a status repeats; an instruction that is done ignores further bytes
 abbrev pub exchangeAct : Instruction → ℕ → Act
 exchangeAct First b = firstAct (commandOf b)
 exchangeAct ReadAddress b = Rest
@@ -123,7 +123,7 @@ highAct RxStatusReply = Rest
 highAct Done = Rest
 
 -- ---- the two statuses
--- A0h, bits 0 to 7: RX0IF, RX1IF, then TXREQ and TXnIF of buffers 0, 1, 2
+-- A0h: RX0IF and RX1IF in bits 0 and 1; above them a pair TXREQ, TXnIF for each of TXB0, TXB1 and TXB2
 unfoldable pub statusOf : Control → ℕ
 statusOf c =
     bitOr (cond (hasBit (c .flags .canintf) RX0IF) 0x01 0)
@@ -139,7 +139,7 @@ statusOf c =
 abbrev pub described : ℕ → ℕ → ℕ → ℕ
 described ctrl sidl filter = bitOr (cond (hasBit sidl 3) 0x10 0) (bitOr (cond (hasBit ctrl RXRTR) 0x08 0) filter)
 
--- hits 0 and 1 of RXB1 show as 6 and 7
+-- a hit of 0 or 1 in RXB1 is shown 6 higher
 abbrev pub shownHit : ℕ → ℕ
 shownHit h = cond (ltb h 2) (h + 6) h
 
@@ -149,7 +149,7 @@ describedRxb0 k = described (k .control .rx .rxb0) (getD (k .rx) 2 0) (k .contro
 abbrev pub describedRxb1 : Core → ℕ
 describedRxb1 k = described (k .control .rx .rxb1) (getD (k .rx) 18 0) (shownHit (k .control .rx .rxb1 % 8))
 
--- bits 7-6 RXB1, RXB0 full; the rest of RXB0 if full, else of RXB1; none full gives 0
+-- bit 7 for RX1IF, bit 6 for RX0IF; the other bits describe RXB0 or, where only RXB1 is full, RXB1; both empty, all is 0
 unfoldable pub rxStatusOf : Core → ℕ
 rxStatusOf k =
     bitOr (cond (hasBit (k .control .flags .canintf) RX1IF) 0x80 0)
@@ -157,7 +157,7 @@ rxStatusOf k =
     (cond (hasBit (k .control .flags .canintf) RX0IF) (describedRxb0 k)
     (cond (hasBit (k .control .flags .canintf) RX1IF) (describedRxb1 k) 0)))
 
--- ---- what an act replies, sampled at its exchange; every other reply is 0
+-- ---- what an act replies, sampled at its exchange; acts that fetch nothing reply 0
 abbrev pub replyTo : Act → Core → ℕ
 replyTo Rest k = 0
 replyTo ResetAll k = 0

@@ -118,15 +118,7 @@ fn settle(k: Core) -> Core
     ensures { λ r. ⌜ r ≡ settledCore k ⌝ }
 {
     let c = k.control;
-    with_control(k, registers::settle(c))
-}
-
-fn with_control(k: Core, c: Control) -> Core
-    ensures { λ r. ⌜ r ≡ withControl k c ⌝ }
-{
-    let mut d = k;
-    d.control = c;
-    d
+    registers::with_control(k, registers::settle(c))
 }
 
 // The core after an act: a mode request is carried out last.
@@ -140,8 +132,11 @@ pub fn apply(x: Act, k: Core) -> Core
         Act::Fetch(_) => settle(k),
         Act::Store(a, b) => settle(registers::store(k, a, b)),
         Act::Modify(a, m, b) => settle(registers::modify(k, a, m, b)),
-        Act::RequestToSend(m) => settle(with_control(k, registers::request_to_send(c, m))),
-        Act::ClearFlag(n) => settle(with_control(k, clear_flag(c, n))),
+        Act::RequestToSend(m) => settle(registers::with_control(
+            k,
+            registers::request_to_send(c, m),
+        )),
+        Act::ClearFlag(n) => settle(registers::with_control(k, clear_flag(c, n))),
         Act::FetchStatus => settle(k),
         Act::FetchRxStatus => settle(k),
         Act::Refuse(_) => k,

@@ -52,7 +52,7 @@ fn command_of(b: u8) -> Command
     }
 }
 
-// RESET and RTS act on their byte.
+// What the code byte itself does: only RESET and RTS act.
 fn first_act(c: Command) -> Act
     ensures { λ r. ⌜ r ≡ firstAct c ⌝ }
 {

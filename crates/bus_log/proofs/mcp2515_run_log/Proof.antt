@@ -8,7 +8,7 @@ use mir.Syntax.{w64}
 use mir.Facts.{toZ-pos}
 use Rattle.mcp2515.specs.Step.{powerOn}
 use Rattle.bus_log.specs.Log.{recordsIn}
-use Rattle.bus_log.specs.Run.{refusalOf, runResult, runAnswers}
+use Rattle.bus_log.specs.Run.{runRefusal, runResult, runAnswers}
 use Rattle.bus_log.proofs.Answers.{answers-first}
 use Rattle.bus_log.proofs.Minus.{minus-fits, minus-is}
 use Rattle.bus_log.proofs.Refusals.{accepted-room}
@@ -38,7 +38,7 @@ power-on-requires c κs = search needs
 run-records-requires : tie.Need-run-records-requires
 run-records-requires c κs =
     let a = c .before .before .before .before .before .before .args in
-    let none : refusalOf (length (a .log .now)) (length (a .answers .now)) ≡ 0 = omega arith in
+    let none : runRefusal (length (a .log .now)) (length (a .answers .now)) ≡ 0 = omega arith in
     (omega arith, accepted-room _ _ none)
 
 cast-result-2 : tie.Need-cast-result-2
@@ -51,7 +51,7 @@ returns-2 : tie.Need-returns-2
 unfolding runResult runAnswers
 returns-2 c =
     let a = c .before .before .before .before .before .before .before .before .before .args in
-    let none : refusalOf (length (a .log .now)) (length (a .answers .now)) ≡ 0 = omega arith in
+    let none : runRefusal (length (a .log .now)) (length (a .answers .now)) ≡ 0 = omega arith in
     let n = recordsIn (length (a .log .now)) in
     let ran = rw (c .before .before .before .before .power-on .ensures) at (c .before .before .run-records .ensures) in
     (rw none (toZ-pos w64 (omega arith)), rw none (ran ∙ answers-first n powerOn (a .log .now) (a .answers .now) (accepted-room _ _ none)))

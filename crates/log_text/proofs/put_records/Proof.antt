@@ -6,7 +6,7 @@ use native.Mathlib.Omega.{arith}
 use borrow.Author.Needs.{needs}
 use lib.ListN.{length, drop}
 use Rattle.mcp2515.specs.Step.{stepOf}
-use Rattle.bus_log.specs.Log.{recordSize, recordAt, stepsOf, chipAfter}
+use Rattle.bus_log.specs.Log.{recordSize, recordAt, stepsOf, lastChip}
 use Rattle.log_text.specs.Line.{linesOf}
 use Rattle.log_text.specs.Storing.{Stored}
 use Rattle.log_text.specs.Stretch.{lineRoom}
@@ -24,7 +24,7 @@ Inv-loop number part count out₀ held₀ left₀ at₀ len₀ n₀ out held lef
     × ((after : List ℕ) (end : ℕ)
     → Stored out len (linesOf n (stepsOf left held (drop at part))) after end
     → Stored out₀ 0 (linesOf number (stepsOf count held₀ part)) after end)
-    × (chipAfter held (stepsOf left held (drop at part)) ≡ chipAfter held₀ (stepsOf count held₀ part))
+    × (lastChip held (stepsOf left held (drop at part)) ≡ lastChip held₀ (stepsOf count held₀ part))
 
 abbrev μ-loop : tie.MeasureT-loop
 μ-loop number part count out₀ held₀ left₀ at₀ len₀ n₀ out held left at len n = left
@@ -80,7 +80,7 @@ same-length : tie.Need-same-length Inv-loop μ-loop
 same-length c = search needs
 
 returns : tie.Need-returns Inv-loop μ-loop
-unfolding stepsOf linesOf chipAfter
+unfolding stepsOf linesOf lastChip
 returns c =
     let l = c .before .loop in
     let none : l .left ≡ 0 = omega arith in

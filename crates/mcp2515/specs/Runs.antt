@@ -34,7 +34,7 @@ PendingReached =
     Reached (λ c. isPending (c .state .request) ≡ true
     → (sendsIn (c .state .mode) ≡ true) × (waits (c .tx) || not (isIdle (c .state .flight)) ≡ true))
 
--- an own frame is in flight only in Normal or Loopback, and not in bus-off
+-- while a flight lasts the mode is Normal or Loopback and the chip is not bus-off
 abbrev pub FlightReached : Type 0
 FlightReached = Reached (λ c. isIdle (c .state .flight) ≡ false → maySend c ≡ true)
 
