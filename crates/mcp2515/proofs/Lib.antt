@@ -4,6 +4,7 @@ pub mod CoreKept
 pub mod CoreRegions
 pub mod CoreBytes
 pub mod CoreLaws
+pub mod Plain
 pub mod Refused
 pub mod Swap
 pub mod Session

@@ -174,7 +174,7 @@ fn step_spi(c: Chip, r: [u8; 16]) -> Stepped
     let k = c.core;
     let s = c.select;
     let g = records::kind_of(r);
-    let sound = records::is_sound(r);
+    let sound = records::is_sound_plain(g, r);
     let b = r[1];
     let x = ask(sound, g, s, b);
     let t = turn(sound, g, s, b);

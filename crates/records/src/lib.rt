@@ -176,7 +176,8 @@ fn largest_field(k: Kind) -> u8
     }
 }
 
-fn is_sound_plain(k: Kind, r: [u8; 16]) -> bool
+// A record of a kind that has no more than one field.
+pub fn is_sound_plain(k: Kind, r: [u8; 16]) -> bool
     ensures { λ b. ⌜ b ≡ soundPlain k r ⌝ }
 {
     (r[1] <= largest_field(k)) & rest_zero(r)

@@ -1,4 +1,4 @@
-use Rattle.mcp2515.specs.Step.{asked, turned}
+use Rattle.mcp2515.proofs.Plain.{asked-plain, turned-plain}
 use borrow.Author.Needs.{needs}
 use Rattle.mcp2515.proofs.step_spi.Statement.{statement}
 use Rattle.mcp2515.proofs.step_spi.Tie as tie
@@ -6,8 +6,8 @@ use Rattle.mcp2515.proofs.step_spi.Tie as tie
 kind-of-requires : tie.Need-kind-of-requires
 kind-of-requires c κs = search needs
 
-is-sound-requires : tie.Need-is-sound-requires
-is-sound-requires c κs = search needs
+is-sound-plain-requires : tie.Need-is-sound-plain-requires
+is-sound-plain-requires c κs = search needs
 
 array-read-b : tie.Need-array-read-b
 array-read-b c = search needs
@@ -28,15 +28,14 @@ apply-requires : tie.Need-apply-requires
 apply-requires c κs = search needs
 
 returns : tie.Need-returns
-unfolding asked turned
-returns c = simp (c .apply .ensures, c .before .reply .ensures, c .before .before .refusal-of .ensures, c .before .before .before .turn .ensures, c .before .before .before .before .ask .ensures, c .before .before .before .before .before .is-sound .ensures, c .before .before .before .before .before .before .kind-of .ensures)
+returns c = simp (c .apply .ensures, c .before .reply .ensures, c .before .before .refusal-of .ensures, c .before .before .before .turn .ensures, c .before .before .before .before .ask .ensures, c .before .before .before .before .before .is-sound-plain .ensures, c .before .before .before .before .before .before .kind-of .ensures, asked-plain, turned-plain)
 
 pub step-spi-spec : {M : Type 1} → statement M
 step-spi-spec =
     tie.close
     (tie.spec
     kind-of-requires
-    is-sound-requires
+    is-sound-plain-requires
     array-read-b
     ask-requires
     turn-requires
