@@ -3,3 +3,4 @@ pub mod Steps
 pub mod Answers
 pub mod Refusals
 pub mod Minus
+pub mod Advance

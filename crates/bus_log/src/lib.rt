@@ -4,7 +4,7 @@ ghost use mathlib.Core.List.{[], _∷_};
 ghost use Prim.Native.Nat.{_+_, _*_, _≤_};
 ghost use lib.ListN.{length, take, drop};
 ghost use lib.Seq.{sets};
-ghost use Rattle.mcp2515.specs.Step.{stepOf};
+ghost use Rattle.records.specs.Records.{kindOf, isEvent};
 ghost use Rattle.bus_log.specs.Log.{recordSize, recordAt, stepsOf, answersOf};
 ghost use Rattle.bus_log.specs.Run.{answerRoom, runRefusal, runResult, runAnswers};
 use mcp2515::Chip;
@@ -54,30 +54,46 @@ pub fn record_at(log: &[u8], at: usize) -> [u8; RECORD_SIZE]
     copy_record(log, at)
 }
 
-// Runs the record at a place of the log, stores its refusal and answer, and returns the chip after it.
-fn run_record(chip: Chip, log: &[u8], at: usize, answers: &mut [u8], out: usize) -> Chip
-    requires { ⌜ out + answerRoom 1 ≤ length (now answers) ⌝ }
-    ensures after { λ r. ⌜ r ≡ stepOf chip (recordAt (now (log .entry)) at) .chip ⌝ }
-    ensures stored { λ _. ⌜ now (answers .exit) ≡ sets (now (answers .entry)) out (answersOf (stepOf chip (recordAt (now (log .entry)) at) ∷ [])) ⌝ }
+// Whether the record at a place of the log is a bus event.
+fn is_event_at(log: &[u8], at: usize) -> bool
+    requires { ⌜ at + recordSize ≤ length (now log) ⌝ }
+    ensures { λ r. ⌜ r ≡ isEvent (kindOf (recordAt (now (log .entry)) at)) ⌝ }
 {
-    let stepped = mcp2515::step(chip, record_at(log, at));
-    let next = stepped.chip;
-    answers[out] = stepped.refusal;
-    answers[out + 1] = stepped.answer;
-    next
+    records::is_event(records::kind_by(log[at]))
 }
 
-// Runs count records over a chip and stores refusal and answer of each.
+// Runs count records over a chip and stores refusal and answer of each. It does what `mcp2515::step` does, part by
+// part, so that the chip changes where it lies; the step by value copies the whole chip at each record.
 fn run_records(chip: Chip, log: &[u8], answers: &mut [u8], count: usize)
     requires { ⌜ (count * recordSize ≤ length (now log)) × (answerRoom count ≤ length (now answers)) ⌝ }
     ensures { λ _. ⌜ now (answers .exit) ≡ sets (now (answers .entry)) 0 (answersOf (stepsOf count chip (now (log .entry)))) ⌝ }
 {
-    let mut held = chip;
+    let mut core = chip.core;
+    let mut select = chip.select;
     let mut left = count;
     let mut at = 0;
     let mut out = 0;
     while left > 0 {
-        held = run_record(held, log, at, answers, out);
+        let second = out + 1;
+        if is_event_at(log, at) {
+            let told = controller::event(core, record_at(log, at));
+            answers[out] = told.refusal;
+            answers[second] = told.answer;
+            core = told.core;
+        } else {
+            let turned = mcp2515::turn(select, copy_record(log, at));
+            let act = turned.act;
+            let effect = spi::perform(act, core);
+            answers[out] = effect.refusal;
+            answers[second] = effect.reply;
+            if effect.writes {
+                core = spi::apply(act, core);
+            } else {
+                let control = effect.control;
+                core.control = control;
+            }
+            select = turned.select;
+        }
         at += RECORD_SIZE;
         out += ANSWER_SIZE;
         left -= 1;

@@ -45,6 +45,7 @@ use Rattle.controller.specs.declared.End.{End}
 use Rattle.controller.specs.declared.End.the-variants.{Sent, LostArbitration, Failed}
 use Rattle.controller.specs.Sending.{rankOf, bestOf, choiceOf, endOf, started, maySend, afterFailure, counted, withCtrl, sentBy, lostBy, failedBy, endedBy, frameSent}
 use Rattle.controller.specs.Events.{wokenControl, heardIn, heardOf, endsIn, endsBy, ended, idled, errorAdds, errorHeard, recovered, happensBy, eventRefusal, eventOf}
+use Rattle.spi.proofs.Parts.{clash}
 use Rattle.mcp2515.specs.Moments.{isFull}
 use Rattle.mcp2515.proofs.CoreFacts.{RxByte}
 
@@ -52,9 +53,6 @@ use Rattle.mcp2515.proofs.CoreFacts.{RxByte}
 pub either : {A : Type 0} (P : A → Type 0) (b : Bool) {x y : A} → P x → P y → P (cond b x y)
 either P true p q = p
 either P false p q = q
-
-pub clash : {A : Type 0} → true ≡ false → A
-clash e = let z : _≡_ {A = ℕ} 0 1 = ap (λ (b : Bool). cond b 0 1) e in absurd (omega arith)
 
 pub no-or : (x y : Bool) → x || y ≡ false → (x ≡ false) × (y ≡ false)
 no-or true y e = clash e

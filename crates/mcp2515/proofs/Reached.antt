@@ -46,12 +46,13 @@ use Rattle.spi.specs.declared.Act.{Act}
 use Rattle.spi.specs.declared.Act.the-variants.{Rest, ResetAll, Fetch, Store, Modify, RequestToSend, ClearFlag, FetchStatus, FetchRxStatus, Refuse}
 use Rattle.mcp2515.specs.declared.Chip.{Chip}
 use Rattle.mcp2515.specs.declared.Stepped.{Stepped}
-use Rattle.spi.specs.Instructions.{clearedOf, acted}
+use Rattle.spi.specs.Instructions.{clearedOf, acted, isWrite}
+use Rattle.spi.proofs.Parts.{clash}
 use Rattle.mcp2515.specs.Step.{powerOn, asked, stepOf, nextChip, chipAfter}
-use Rattle.mcp2515.specs.Runs.{SettledReached, isPending, PendingReached, FlightReached, FilterKept, FiltersLocked, isWrite, FiltersWritten}
+use Rattle.mcp2515.specs.Runs.{SettledReached, isPending, PendingReached, FlightReached, FilterKept, FiltersLocked, FiltersWritten}
 use Rattle.mcp2515.proofs.CoreFacts.{Good}
 use Rattle.mcp2515.proofs.CoreSettle.{good-power, good-acted, good-event}
-use Rattle.mcp2515.proofs.CoreKept.{either, clash, no-or, event-kept}
+use Rattle.mcp2515.proofs.CoreKept.{either, no-or, event-kept}
 
 -- ---- steps and runs
 step-core : (P : Core → Type 0) (c : Chip) (r : List ℕ) → P (eventOf (c .core) r .core) → P (acted (asked (c .select) r) (c .core)) → P (nextChip c r .core)

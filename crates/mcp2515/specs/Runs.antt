@@ -11,8 +11,8 @@ use Rattle.registers.specs.State.{isConfiguration, isIdle}
 use Rattle.registers.specs.Registers.{regionOf, holds}
 use Rattle.registers.specs.Modes.{sendsIn, waits, settled}
 use Rattle.controller.specs.Sending.{maySend}
-use Rattle.spi.specs.declared.Act.{Act}
-use Rattle.spi.specs.declared.Act.the-variants.{Rest, ResetAll, Fetch, Store, Modify, RequestToSend, ClearFlag, FetchStatus, FetchRxStatus, Refuse}
+use Rattle.spi.specs.declared.Act.the-variants.{ResetAll}
+use Rattle.spi.specs.Instructions.{isWrite}
 use Rattle.mcp2515.specs.declared.Chip.{Chip}
 use Rattle.mcp2515.specs.Step.{powerOn, asked, nextChip, chipAfter}
 
@@ -48,17 +48,5 @@ FiltersLocked =
     (c : Chip) (r : List ℕ) → isConfiguration (c .core .control .state .mode) ≡ false → (asked (c .select) r ≡ ResetAll → ⊥) → FilterKept c r
 
 -- in every mode only a written byte and RESET change it; a bus event asks for no act
-abbrev pub isWrite : Act → Bool
-isWrite Rest = false
-isWrite ResetAll = true
-isWrite (Fetch a) = false
-isWrite (Store a b) = true
-isWrite (Modify a m b) = true
-isWrite (RequestToSend m) = false
-isWrite (ClearFlag n) = false
-isWrite FetchStatus = false
-isWrite FetchRxStatus = false
-isWrite (Refuse n) = false
-
 abbrev pub FiltersWritten : Type 0
 FiltersWritten = (c : Chip) (r : List ℕ) → isWrite (asked (c .select) r) ≡ false → FilterKept c r

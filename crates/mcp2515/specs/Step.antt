@@ -17,6 +17,7 @@ use Rattle.spi.specs.declared.Act.{Act}
 use Rattle.spi.specs.declared.Act.the-variants.{Rest, Refuse}
 use Rattle.mcp2515.specs.declared.Chip.{Chip}
 use Rattle.mcp2515.specs.declared.Stepped.{Stepped}
+use Rattle.mcp2515.specs.declared.Move.{Move}
 use Rattle.spi.specs.Instructions.{exchangeAct, exchangeNext, highAct, replyTo, acted, refusalOf}
 
 -- at power-on the select is high
@@ -58,6 +59,16 @@ turnedBy Unknown s b = s
 
 unfoldable pub turned : Select → List ℕ → Select
 turned s r = cond (soundOf r) (turnedBy (kindOf r) s (byteAt r 1)) s
+
+-- a record's move: what it asks of the core, and the select after it
+abbrev pub moveBy : Kind → Select → ℕ → Move
+moveBy g s b = record { act = askedBy g s b; select = turnedBy g s b }
+
+abbrev pub moveOf : Select → List ℕ → Move
+moveOf s r = record { act = asked s r; select = turned s r }
+
+abbrev pub refusedMove : Select → ℕ → Move
+refusedMove s n = record { act = Refuse n; select = s }
 
 abbrev pub spiStep : Chip → List ℕ → Stepped
 spiStep c r =

@@ -3,17 +3,15 @@ ghost use mathlib.Core.Path.{_≡_};
 ghost use Rattle.registers.specs.Registers.{holds, reads, intIsLow};
 ghost use Rattle.mcp2515.specs.Step.{
   powerOn,
-  askedBy,
-  asked,
-  turnedBy,
-  turned,
+  moveBy,
+  moveOf,
+  refusedMove,
   spiStep,
   eventStep,
   stepOf,
 };
 ghost use Rattle.mcp2515.specs.Promise.{Stepping};
-ghost use Rattle.records.specs.Records.{refusedField, kindOf, isEvent};
-ghost use mathlib.Core.Bool.{cond};
+ghost use Rattle.records.specs.Records.{kindOf, isEvent};
 use records::Kind;
 use records::REFUSED_FIELD;
 use records::REFUSED_SELECT;
@@ -29,6 +27,12 @@ pub struct Chip {
 pub enum Select {
     Raised,
     Lowered(Instruction),
+}
+
+// A move of the SPI side: what it asks of the core, and the select line after it.
+pub struct Move {
+    pub act: Act,
+    pub select: Select,
 }
 
 // A step: the refusal (0 for none), the answer, and the chip after it.
@@ -73,99 +77,76 @@ pub fn int_is_low(c: Chip) -> bool
     registers::int_is_low(d)
 }
 
-fn ask_low(s: Select, b: u8) -> Act
-    ensures { λ r. ⌜ r ≡ askedBy Kind.SelectLow s b ⌝ }
+fn refuse(s: Select, n: u8) -> Move
+    ensures { λ r. ⌜ r ≡ refusedMove s n ⌝ }
+{
+    Move {
+        act: Act::Refuse(n),
+        select: s,
+    }
+}
+
+fn turn_low(s: Select, b: u8) -> Move
+    ensures { λ r. ⌜ r ≡ moveBy Kind.SelectLow s b ⌝ }
 {
     match s {
-        Select::Raised => Act::Rest,
-        Select::Lowered(_) => Act::Refuse(REFUSED_SELECT),
+        Select::Raised => Move {
+            act: Act::Rest,
+            select: Select::Lowered(Instruction::First),
+        },
+        Select::Lowered(_) => refuse(s, REFUSED_SELECT),
     }
 }
 
-fn ask_exchange(s: Select, b: u8) -> Act
-    ensures { λ r. ⌜ r ≡ askedBy Kind.Exchange s b ⌝ }
+fn turn_exchange(s: Select, b: u8) -> Move
+    ensures { λ r. ⌜ r ≡ moveBy Kind.Exchange s b ⌝ }
 {
     match s {
-        Select::Raised => Act::Refuse(REFUSED_SELECT),
-        Select::Lowered(i) => spi::exchange_act(i, b),
+        Select::Raised => refuse(s, REFUSED_SELECT),
+        Select::Lowered(i) => Move {
+            act: spi::exchange_act(i, b),
+            select: Select::Lowered(spi::exchange_next(i, b)),
+        },
     }
 }
 
-fn ask_high(s: Select, b: u8) -> Act
-    ensures { λ r. ⌜ r ≡ askedBy Kind.SelectHigh s b ⌝ }
+fn turn_high(s: Select, b: u8) -> Move
+    ensures { λ r. ⌜ r ≡ moveBy Kind.SelectHigh s b ⌝ }
 {
     match s {
-        Select::Raised => Act::Refuse(REFUSED_SELECT),
-        Select::Lowered(i) => spi::high_act(i),
+        Select::Raised => refuse(s, REFUSED_SELECT),
+        Select::Lowered(i) => Move {
+            act: spi::high_act(i),
+            select: Select::Raised,
+        },
     }
 }
 
-fn ask_by(g: Kind, s: Select, b: u8) -> Act
-    ensures { λ r. ⌜ r ≡ askedBy g s b ⌝ }
-{
-    match g {
-        Kind::SelectLow => ask_low(s, b),
-        Kind::Exchange => ask_exchange(s, b),
-        Kind::SelectHigh => ask_high(s, b),
-        Kind::FrameHeard => Act::Refuse(REFUSED_FIELD),
-        Kind::BusIdle => Act::Refuse(REFUSED_FIELD),
-        Kind::FrameEnds => Act::Refuse(REFUSED_FIELD),
-        Kind::ReceiveError => Act::Refuse(REFUSED_FIELD),
-        Kind::Recovery => Act::Refuse(REFUSED_FIELD),
-        Kind::Unknown => Act::Refuse(REFUSED_FIELD),
-    }
-}
-
-// What a record of the SPI side asks of the core: refusal 2 comes first.
-fn ask(sound: bool, g: Kind, s: Select, b: u8) -> Act
-    ensures { λ r. ⌜ r ≡ cond sound (askedBy g s b) (Act.Refuse refusedField) ⌝ }
-{
-    if sound {
-        ask_by(g, s, b)
-    } else {
-        Act::Refuse(REFUSED_FIELD)
-    }
-}
-
-fn turn_low(s: Select, b: u8) -> Select
-    ensures { λ r. ⌜ r ≡ turnedBy Kind.SelectLow s b ⌝ }
-{
-    match s {
-        Select::Raised => Select::Lowered(Instruction::First),
-        Select::Lowered(_) => s,
-    }
-}
-
-fn turn_exchange(s: Select, b: u8) -> Select
-    ensures { λ r. ⌜ r ≡ turnedBy Kind.Exchange s b ⌝ }
-{
-    match s {
-        Select::Raised => Select::Raised,
-        Select::Lowered(i) => Select::Lowered(spi::exchange_next(i, b)),
-    }
-}
-
-fn turn_by(g: Kind, s: Select, b: u8) -> Select
-    ensures { λ r. ⌜ r ≡ turnedBy g s b ⌝ }
+fn turn_by(g: Kind, s: Select, b: u8) -> Move
+    ensures { λ r. ⌜ r ≡ moveBy g s b ⌝ }
 {
     match g {
         Kind::SelectLow => turn_low(s, b),
         Kind::Exchange => turn_exchange(s, b),
-        Kind::SelectHigh => Select::Raised,
-        Kind::FrameHeard => s,
-        Kind::BusIdle => s,
-        Kind::FrameEnds => s,
-        Kind::ReceiveError => s,
-        Kind::Recovery => s,
-        Kind::Unknown => s,
+        Kind::SelectHigh => turn_high(s, b),
+        Kind::FrameHeard => refuse(s, REFUSED_FIELD),
+        Kind::BusIdle => refuse(s, REFUSED_FIELD),
+        Kind::FrameEnds => refuse(s, REFUSED_FIELD),
+        Kind::ReceiveError => refuse(s, REFUSED_FIELD),
+        Kind::Recovery => refuse(s, REFUSED_FIELD),
+        Kind::Unknown => refuse(s, REFUSED_FIELD),
     }
 }
 
-// The select line and the open instruction after it.
-fn turn(sound: bool, g: Kind, s: Select, b: u8) -> Select
-    ensures { λ r. ⌜ r ≡ cond sound (turnedBy g s b) s ⌝ }
+// What a record asks of the core, and the select line with the open instruction after it: refusal 2 comes first.
+pub fn turn(s: Select, r: [u8; 16]) -> Move
+    ensures { λ x. ⌜ x ≡ moveOf s r ⌝ }
 {
-    if sound { turn_by(g, s, b) } else { s }
+    let g = records::kind_of(r);
+    if records::is_sound_plain(g, r) {
+        return turn_by(g, s, r[1]);
+    }
+    refuse(s, REFUSED_FIELD)
 }
 
 fn step_spi(c: Chip, r: [u8; 16]) -> Stepped
@@ -173,17 +154,14 @@ fn step_spi(c: Chip, r: [u8; 16]) -> Stepped
 {
     let k = c.core;
     let s = c.select;
-    let g = records::kind_of(r);
-    let sound = records::is_sound_plain(g, r);
-    let b = r[1];
-    let x = ask(sound, g, s, b);
-    let t = turn(sound, g, s, b);
-    let n = spi::refusal_of(x);
-    let a = spi::reply(x, k);
+    let q = turn(s, r);
+    let x = q.act;
+    let t = q.select;
+    let e = spi::perform(x, k);
     let d = spi::apply(x, k);
     Stepped {
-        refusal: n,
-        answer: a,
+        refusal: e.refusal,
+        answer: e.reply,
         chip: Chip { core: d, select: t },
     }
 }

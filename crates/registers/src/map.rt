@@ -2,7 +2,8 @@
 ghost use mathlib.Core.Path.{_≡_};
 ghost use Prim.Native.Nat.{_*_, _%_, _<_, min};
 ghost use lib.ListN.{getD};
-ghost use Rattle.registers.specs.State.{modeNumber};
+ghost use mathlib.Core.Bool.{not, _&&_};
+ghost use Rattle.registers.specs.State.{modeNumber, isConfiguration};
 ghost use Rattle.registers.specs.Registers.{
   txAt,
   rxAt,
@@ -21,7 +22,6 @@ ghost use Rattle.registers.specs.Registers.{
   holdsIn,
   holds,
   isProfile,
-  hidden,
   reads,
 };
 use crate::Control;
@@ -339,18 +339,25 @@ fn is_profile(g: Region) -> bool
     }
 }
 
-fn is_hidden(k: Core, a: u8) -> bool
-    ensures { λ r. ⌜ r ≡ hidden k a ⌝ }
+// What lies at an address reads 0 in this mode.
+fn is_hidden(g: Region, c: Control) -> bool
+    ensures { λ r. ⌜ r ≡ isProfile g && not (isConfiguration (c .state .mode)) ⌝ }
 {
-    let c = k.control;
     let s = c.state;
     let m = s.mode;
-    is_profile(region_of(a % 128)) & !is_configuration(m)
+    is_profile(g) & !is_configuration(m)
 }
 
 // What a READ of an address replies.
 pub fn read(k: Core, a: u8) -> u8
     ensures { λ r. ⌜ r ≡ reads k a ⌝ }
 {
-    if is_hidden(k, a) { 0 } else { hold(k, a) }
+    let at = a % 128;
+    let g = region_of(at);
+    let c = k.control;
+    if is_hidden(g, c) {
+        0
+    } else {
+        hold_in(g, k, at)
+    }
 }

@@ -10,12 +10,14 @@ ghost use Rattle.spi.specs.Instructions.{
   described,
   shownHit,
   rxStatusOf,
-  replyTo,
   clearedOf,
+  accepting,
+  writing,
+  effectOf,
   acted,
-  refusalOf,
 };
 use crate::Act;
+use crate::Effect;
 use registers::Control;
 use registers::Core;
 use registers::RxBuffer;
@@ -77,25 +79,6 @@ fn rx_status(k: Core) -> u8
     flag(full1, 128) | (flag(full0, 64) | shown)
 }
 
-// The reply, sampled before the act.
-pub fn reply(x: Act, k: Core) -> u8
-    ensures { λ r. ⌜ r ≡ replyTo x k ⌝ }
-{
-    let c = k.control;
-    match x {
-        Act::Rest => 0,
-        Act::ResetAll => 0,
-        Act::Fetch(a) => registers::read(k, a),
-        Act::Store(_, _) => 0,
-        Act::Modify(_, _, _) => 0,
-        Act::RequestToSend(_) => 0,
-        Act::ClearFlag(_) => 0,
-        Act::FetchStatus => status(c),
-        Act::FetchRxStatus => rx_status(k),
-        Act::Refuse(_) => 0,
-    }
-}
-
 fn clear_flag(c: Control, n: RxBuffer) -> Control
     ensures { λ r. ⌜ r ≡ clearedOf c n ⌝ }
 {
@@ -112,6 +95,52 @@ fn with_canintf(c: Control, v: u8) -> Control
     let mut d = c;
     d.flags.canintf = v;
     d
+}
+
+fn accept(c: Control, reply: u8) -> Effect
+    ensures { λ r. ⌜ r ≡ accepting c reply ⌝ }
+{
+    Effect {
+        control: registers::settle(c),
+        refusal: 0,
+        reply: reply,
+        writes: false,
+    }
+}
+
+fn write(c: Control) -> Effect
+    ensures { λ r. ⌜ r ≡ writing c ⌝ }
+{
+    Effect {
+        control: c,
+        refusal: 0,
+        reply: 0,
+        writes: true,
+    }
+}
+
+// The reply is sampled before the act.
+pub fn perform(x: Act, k: Core) -> Effect
+    ensures { λ r. ⌜ r ≡ effectOf x k ⌝ }
+{
+    let c = k.control;
+    match x {
+        Act::Rest => accept(c, 0),
+        Act::ResetAll => write(c),
+        Act::Fetch(a) => accept(c, registers::read(k, a)),
+        Act::Store(_, _) => write(c),
+        Act::Modify(_, _, _) => write(c),
+        Act::RequestToSend(m) => accept(registers::request_to_send(c, m), 0),
+        Act::ClearFlag(n) => accept(clear_flag(c, n), 0),
+        Act::FetchStatus => accept(c, status(c)),
+        Act::FetchRxStatus => accept(c, rx_status(k)),
+        Act::Refuse(n) => Effect {
+            control: c,
+            refusal: n,
+            reply: 0,
+            writes: false,
+        },
+    }
 }
 
 fn settle(k: Core) -> Core
@@ -140,22 +169,5 @@ pub fn apply(x: Act, k: Core) -> Core
         Act::FetchStatus => settle(k),
         Act::FetchRxStatus => settle(k),
         Act::Refuse(_) => k,
-    }
-}
-
-pub fn refusal_of(x: Act) -> u8
-    ensures { λ r. ⌜ r ≡ refusalOf x ⌝ }
-{
-    match x {
-        Act::Rest => 0,
-        Act::ResetAll => 0,
-        Act::Fetch(_) => 0,
-        Act::Store(_, _) => 0,
-        Act::Modify(_, _, _) => 0,
-        Act::RequestToSend(_) => 0,
-        Act::ClearFlag(_) => 0,
-        Act::FetchStatus => 0,
-        Act::FetchRxStatus => 0,
-        Act::Refuse(n) => n,
     }
 }

@@ -3,8 +3,7 @@ mod acts;
 mod codes;
 
 pub use acts::apply;
-pub use acts::refusal_of;
-pub use acts::reply;
+pub use acts::perform;
 pub use codes::exchange_act;
 pub use codes::exchange_next;
 pub use codes::high_act;
@@ -51,4 +50,12 @@ pub enum Act {
     FetchStatus,
     FetchRxStatus,
     Refuse(u8),
+}
+
+// What an act gives: its refusal and its reply, and the control registers after it, unless it writes bytes of the chip.
+pub struct Effect {
+    pub control: registers::Control,
+    pub refusal: u8,
+    pub reply: u8,
+    pub writes: bool,
 }

@@ -8,11 +8,14 @@ enum-told c = search needs
 enum-told-2 : tie.Need-enum-told-2
 enum-told-2 c = search needs
 
+refuse-requires : tie.Need-refuse-requires
+refuse-requires c κs = search needs
+
 returns : tie.Need-returns
 returns c = simp (c .enum-told .given .1)
 
 returns-2 : tie.Need-returns-2
-returns-2 c = search needs
+returns-2 c = simp (c .refuse .ensures, c .before .enum-told2 .given .1)
 
 pub turn-low-spec : {M : Type 1} → statement M
-turn-low-spec = tie.close (tie.spec enum-told enum-told-2 returns returns-2)
+turn-low-spec = tie.close (tie.spec enum-told enum-told-2 refuse-requires returns returns-2)

@@ -1,22 +1,33 @@
-use mathlib.Core.Path.{sym, _∙_}
-use Rattle.registers.specs.Registers.{reads}
+use mathlib.Core.Bool.{true, false, not, _&&_}
+use mathlib.Core.Path.{_≡_, sym, _∙_}
+use Prim.Native.Nat.{_%_}
+use Rattle.registers.specs.State.{isConfiguration}
+use Rattle.registers.specs.Registers.{regionOf, isProfile, holds, reads}
 use borrow.Author.Needs.{needs}
 use Rattle.registers.proofs.map.read.Statement.{statement}
 use Rattle.registers.proofs.map.read.Tie as tie
 
+region-of-requires : tie.Need-region-of-requires
+region-of-requires c κs = search needs
+
 is-hidden-requires : tie.Need-is-hidden-requires
 is-hidden-requires c κs = search needs
 
-hold-requires : tie.Need-hold-requires
-hold-requires c κs = search needs
+hold-in-requires : tie.Need-hold-in-requires
+hold-in-requires c κs = search needs
 
 returns : tie.Need-returns
 unfolding reads
-returns c = simp (sym (c .before .is-hidden .ensures) ∙ c .if1 .taken, c .before .is-hidden .ensures)
+returns c =
+    let e = rw (c .before .before .before .region-of .ensures) at (sym (c .before .is-hidden .ensures) ∙ c .if1 .taken) in
+    simp e
 
 returns-2 : tie.Need-returns-2
-unfolding reads
-returns-2 c = simp (c .hold .ensures, sym (c .before .before .is-hidden .ensures) ∙ c .before .if1 .left, c .before .before .is-hidden .ensures)
+unfolding reads holds
+returns-2 c =
+    let e = rw (c .before .before .before .before .region-of .ensures) at (sym (c .before .before .is-hidden .ensures) ∙ c .before .if1 .left) in
+    simp (c .hold-in .ensures, c .before .before .before .before .region-of .ensures, e)
 
 pub read-spec : {M : Type 1} → statement M
-read-spec = tie.close (tie.spec is-hidden-requires hold-requires returns returns-2)
+read-spec =
+    tie.close (tie.spec region-of-requires is-hidden-requires hold-in-requires returns returns-2)
