@@ -1,7 +1,7 @@
 // One byte: its bits, and the changes that a register takes.
 ghost use mathlib.Core.Path.{_≡_};
 ghost use mathlib.Core.Bool.{cond};
-ghost use Rattle.bits.specs.Bit.{hasBit, powerOf, setBit, clearBit, merged, written, agreeUnder};
+ghost use Rattle.bits.specs.Bit.{hasBit, powerOf, setBit, merged, written, agreeUnder};
 
 // Whether bit k is 1; a byte has none from 8 on.
 pub fn has(x: u8, k: u8) -> bool
@@ -21,12 +21,6 @@ pub fn set(x: u8, k: u8) -> u8
     ensures { λ r. ⌜ r ≡ setBit x k ⌝ }
 {
     x | power(k)
-}
-
-pub fn clear(x: u8, k: u8) -> u8
-    ensures { λ r. ⌜ r ≡ clearBit x k ⌝ }
-{
-    x & (255 - power(k))
 }
 
 // The bits of new where mask has a 1, those of old elsewhere.

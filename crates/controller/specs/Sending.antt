@@ -16,7 +16,7 @@ use Rattle.registers.specs.declared.Core.{Core}
 use Rattle.registers.specs.State.{OSM, TXREQ, TXERR, MLOA, ABTF, MERRF, isNormal, txNumber, txFlag, txControl, withTxControl, withTx, withCanintf, withFlight}
 use Rattle.registers.specs.Errors.{isBusOff, movedTo, tecLess, tecMore}
 use Rattle.registers.specs.Modes.{sendsIn, waits}
-use Rattle.registers.specs.Store.{abortsAll}
+use Rattle.registers.specs.State.{abortsAll}
 use Rattle.controller.specs.declared.Choice.{Choice}
 use Rattle.controller.specs.declared.Choice.the-variants.{Send, Nobody}
 use Rattle.controller.specs.declared.End.{End}

@@ -6,7 +6,7 @@ ghost use lib.ListN.{getD};
 ghost use Rattle.bits.specs.Bit.{hasBit, setBit};
 ghost use Rattle.registers.specs.State.{OSM, isNormal, txFlag, withFlight, withCanintf};
 ghost use Rattle.registers.specs.Modes.{waits};
-ghost use Rattle.registers.specs.Store.{abortsAll};
+ghost use Rattle.registers.specs.State.{abortsAll};
 ghost use Rattle.controller.specs.Sending.{
   choiceNumber,
   rankOf,

@@ -3,7 +3,7 @@ use Rattle.records.specs.Records.{kindOf, soundOf, frameOf}
 use Rattle.registers.specs.Errors.{errorFlags, movedTo}
 use Rattle.registers.specs.Modes.{entered, freeToChange, settled}
 use Rattle.registers.specs.Registers.{regionOf, writableOf, powerOnCore, resetCore, interruptCode, canstatOf, holds, reads}
-use Rattle.registers.specs.Store.{txStored, requestedOf, requestedToSend, aborted, canctrlStored, stored, takesMask, modified}
+use Rattle.stores.specs.Store.{txStored, requestedOf, requestedToSend, aborted, canctrlStored, stored, takesMask, modified}
 use Rattle.receiving.specs.Receiving.{keyOf, matches, lowestFrom, hitFor, verdictOf, bytesStored, receivedOf}
 use Rattle.controller.specs.Sending.{bestOf, choiceOf, afterFailure, sentBy, lostBy, failedBy, frameAt}
 use Rattle.controller.specs.Events.{heardOf, ended, idled, errorHeard, eventRefusal, eventOf}

@@ -22,7 +22,8 @@ use Rattle.registers.specs.declared.Core.{Core}
 use Rattle.registers.specs.State.{WAKIF, TXREQ, isLoopback, txNumber, sameTx, inFlight, txControl, withControl, withTxBytes}
 use Rattle.registers.specs.Errors.{isBusOff}
 use Rattle.registers.specs.Registers.{writableOf}
-use Rattle.registers.specs.Store.{updated, stored}
+use Rattle.stores.specs.Store.{stored}
+use Rattle.registers.specs.State.{updated}
 use Rattle.receiving.specs.declared.Received.{Received}
 use Rattle.receiving.specs.declared.Reception.the-variants.{Woke}
 use Rattle.receiving.specs.Receiving.{receivedOf}

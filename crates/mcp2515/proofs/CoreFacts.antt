@@ -13,7 +13,8 @@ use Rattle.controller.specs.Events.{settledCore, eventOf}
 use Rattle.spi.specs.declared.Act.{Act}
 use Rattle.spi.specs.declared.Act.the-variants.{Store}
 use Rattle.spi.specs.Instructions.{acted}
-use Rattle.mcp2515.specs.Moments.{isFull, isFree}
+use Rattle.receiving.specs.Receiving.{isFull}
+use Rattle.mcp2515.specs.Moments.{isFree}
 
 -- The invariant of reached chips: no mode request can be carried out.
 abbrev pub Good : Core → Type 0
@@ -43,9 +44,9 @@ pub record CoreFacts : Type 0 where
   pub good-acted : (a : Act) (k : Core) → Good k → Good (acted a k)
   pub good-event : (k : Core) (r : List ℕ) → Good k → Good (eventOf k r .core)
   -- no event empties a receive buffer or asks for sending, and none changes a full buffer's bytes
-  pub full-event : (k : Core) (r : List ℕ) (b : RxBuffer) → isFull k b ≡ true → isFull (eventOf k r .core) b ≡ true
+  pub full-event : (k : Core) (r : List ℕ) (b : RxBuffer) → isFull (k .control) b ≡ true → isFull (eventOf k r .core .control) b ≡ true
   pub free-event : (k : Core) (r : List ℕ) (b : TxBuffer) → isFree k b ≡ true → isFree (eventOf k r .core) b ≡ true
-  pub fetch-event : (k : Core) (r : List ℕ) (b : RxBuffer) (a : ℕ) → isFull k b ≡ true → RxByte b a → reads (eventOf k r .core) a ≡ reads k a
+  pub fetch-event : (k : Core) (r : List ℕ) (b : RxBuffer) (a : ℕ) → isFull (k .control) b ≡ true → RxByte b a → reads (eventOf k r .core) a ≡ reads k a
   -- no event looks at the bytes of a free transmit buffer
   pub store-free : (k : Core) (b : TxBuffer) (a v : ℕ) → Good k → isFree k b ≡ true → TxByte b a → isFree (acted (Store a v) k) b ≡ true
   pub store-refusal : (k : Core) (r : List ℕ) (b : TxBuffer) (a v : ℕ) → Good k → isFree k b ≡ true → TxByte b a

@@ -32,12 +32,13 @@ use Rattle.registers.specs.declared.Core.{Core}
 use Rattle.registers.specs.State.{RX0IF, RX1IF, ERRIF, WAKIF, MERRF, OSM, TXREQ, TXERR, MLOA, ABTF, BUKT, isNormal, isLoopback, rxFlag, txFlag, sameTx, inFlight, txControl, withTxControl, withCanintf, withControl}
 use Rattle.registers.specs.Errors.{isBusOff, errorFlags, rises, movedTo, tecLess, tecMore, recLess, recMore}
 use Rattle.registers.specs.Modes.{waits, entered, freeToChange, settledBy, settled}
-use Rattle.registers.specs.Store.{abortsAll, isLocked}
+use Rattle.stores.specs.Store.{isLocked}
+use Rattle.registers.specs.State.{abortsAll}
 use Rattle.receiving.specs.declared.Hit.{Hit}
 use Rattle.receiving.specs.declared.Hit.the-variants.{Filter, Miss}
 use Rattle.receiving.specs.declared.Verdict.{Verdict}
 use Rattle.receiving.specs.declared.Verdict.the-variants.{Unmatched, Stored0, Stored1, RolledOver, Lost0, Lost1}
-use Rattle.receiving.specs.Receiving.{keyOf, hitFor, isFull0, isFull1, verdictBy, verdictOf, controlAfter, filled, headed, bytesStored, bytesAfter, receivedOf}
+use Rattle.receiving.specs.Receiving.{keyOf, hitFor, isFull, verdictBy, verdictOf, controlAfter, filled, headed, bytesStored, bytesAfter, receivedOf}
 use Rattle.receiving.specs.declared.Received.{Received}
 use Rattle.controller.specs.declared.Told.{Told}
 use Rattle.controller.specs.declared.Choice.the-variants.{Send, Nobody}
@@ -46,7 +47,6 @@ use Rattle.controller.specs.declared.End.the-variants.{Sent, LostArbitration, F
 use Rattle.controller.specs.Sending.{rankOf, bestOf, choiceOf, endOf, started, maySend, afterFailure, counted, withCtrl, sentBy, lostBy, failedBy, endedBy, frameSent}
 use Rattle.controller.specs.Events.{wokenControl, heardIn, heardOf, endsIn, endsBy, ended, idled, errorAdds, errorHeard, recovered, happensBy, eventRefusal, eventOf}
 use Rattle.spi.proofs.Parts.{clash}
-use Rattle.mcp2515.specs.Moments.{isFull}
 use Rattle.mcp2515.proofs.CoreFacts.{RxByte}
 
 -- a fact of both values of a choice is one of the choice
@@ -262,27 +262,27 @@ fills Lost1 b = false
 
 spares-by : (c : Control) (x y : Hit) (b : RxBuffer) → hasBit (c .flags .canintf) (rxFlag b) ≡ true → fills (verdictBy c x y) b ≡ false
 unfolding fills
-spares-by c (Filter h) y Rxb0 e = rw e (go (hasBit (c .rx .rxb0) BUKT) (isFull1 c))
+spares-by c (Filter h) y Rxb0 e = rw e (go (hasBit (c .rx .rxb0) BUKT) (isFull c Rxb1))
   where
     go : (p q : Bool) → fills (cond p (cond q Lost1 (RolledOver h)) Lost0) Rxb0 ≡ false
     go true true = refl
     go true false = refl
     go false q = refl
-spares-by c (Filter h) y Rxb1 e = rw e (go (hasBit (c .rx .rxb0) BUKT) (isFull0 c))
+spares-by c (Filter h) y Rxb1 e = rw e (go (hasBit (c .rx .rxb0) BUKT) (isFull c Rxb0))
   where
     go : (p q : Bool) → fills (cond q (cond p Lost1 Lost0) (Stored0 h)) Rxb1 ≡ false
     go true true = refl
     go false true = refl
     go p false = refl
 spares-by c Miss Miss b e = refl
-spares-by c Miss (Filter h) Rxb0 e = go (isFull1 c)
+spares-by c Miss (Filter h) Rxb0 e = go (isFull c Rxb1)
   where
     go : (p : Bool) → fills (cond p Lost1 (Stored1 h)) Rxb0 ≡ false
     go true = refl
     go false = refl
 spares-by c Miss (Filter h) Rxb1 e = rw e
 
-spares : (k : Core) (f : Frame) (b : RxBuffer) → isFull k b ≡ true → fills (verdictOf (k .control) (k .config) f) b ≡ false
+spares : (k : Core) (f : Frame) (b : RxBuffer) → isFull (k .control) b ≡ true → fills (verdictOf (k .control) (k .config) f) b ≡ false
 unfolding verdictOf
 spares k f b h = spares-by (k .control) (hitFor (k .control) (k .config) (keyOf f) Rxb0) (hitFor (k .control) (k .config) (keyOf f) Rxb1) b h
 
@@ -320,7 +320,7 @@ pub record Kept (k j : Core) : Type 0 where
   pub control : Keeps (k .control) (j .control)
   pub config : j .config ≡ k .config
   pub tx : j .tx ≡ k .tx
-  pub rx : (b : RxBuffer) (a : ℕ) → isFull k b ≡ true → RxByte b a → getD (j .rx) (a % 32) 0 ≡ getD (k .rx) (a % 32) 0
+  pub rx : (b : RxBuffer) (a : ℕ) → isFull (k .control) b ≡ true → RxByte b a → getD (j .rx) (a % 32) 0 ≡ getD (k .rx) (a % 32) 0
 
 whole : (k : Core) (c : Control) → Keeps (k .control) c → Kept k (withControl k c)
 whole k c p = record { control = p; config = refl; tx = refl; rx = λ b a h t. refl }

@@ -13,7 +13,8 @@ use Rattle.controller.specs.declared.Told.{Told}
 use Rattle.controller.specs.Events.{eventOf}
 use Rattle.spi.specs.declared.Act.the-variants.{Store}
 use Rattle.spi.specs.Instructions.{acted}
-use Rattle.mcp2515.specs.Moments.{isFull, isFree}
+use Rattle.receiving.specs.Receiving.{isFull}
+use Rattle.mcp2515.specs.Moments.{isFree}
 use Rattle.mcp2515.proofs.CoreFacts.{Good, RxByte, TxByte, CoreFacts}
 use Rattle.mcp2515.proofs.CoreSettle.{good-power, good-acted, good-event}
 use Rattle.mcp2515.proofs.CoreKept.{event-kept}
@@ -23,7 +24,7 @@ use Rattle.mcp2515.proofs.CoreBytes.{toldWith, bytesPut, acted-put, eve
 free-event : (k : Core) (r : List ℕ) (b : TxBuffer) → isFree k b ≡ true → isFree (eventOf k r .core) b ≡ true
 free-event k r b h = ap not (event-kept k r .control .free b (not-true _ h))
 
-fetch-event : (k : Core) (r : List ℕ) (b : RxBuffer) (a : ℕ) → isFull k b ≡ true → RxByte b a → reads (eventOf k r .core) a ≡ reads k a
+fetch-event : (k : Core) (r : List ℕ) (b : RxBuffer) (a : ℕ) → isFull (k .control) b ≡ true → RxByte b a → reads (eventOf k r .core) a ≡ reads k a
 fetch-event k r b a h t = rx-reads (eventOf k r .core) b a t ∙ event-kept k r .rx b a h t ∙ sym (rx-reads k b a t)
 
 -- ---- a store into a free buffer and an event, in either order

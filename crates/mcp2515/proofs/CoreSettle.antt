@@ -12,7 +12,7 @@ use Rattle.registers.specs.declared.Core.{Core}
 use Rattle.registers.specs.State.{withRequest, withControl}
 use Rattle.registers.specs.Registers.{resetCore, powerOnCore}
 use Rattle.registers.specs.Modes.{entered, freeToChange, settledBy, settled}
-use Rattle.registers.specs.Store.{stored, modified, requestedToSend}
+use Rattle.stores.specs.Store.{stored, modified, requestedToSend}
 use Rattle.controller.specs.Events.{settledCore, toldOf, refusedBy, happensBy, eventRefusal, eventOf}
 use Rattle.spi.specs.declared.Act.{Act}
 use Rattle.spi.specs.declared.Act.the-variants.{Rest, ResetAll, Fetch, Store, Modify, RequestToSend, ClearFlag, FetchStatus, FetchRxStatus, Refuse}

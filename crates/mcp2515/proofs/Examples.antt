@@ -9,7 +9,7 @@ use Rattle.records.specs.Records.{kindOf, frameOf, soundOf}
 use Rattle.registers.specs.Errors.{errorFlags, movedTo}
 use Rattle.registers.specs.Modes.{entered, freeToChange, settled}
 use Rattle.registers.specs.Registers.{regionOf, writableOf, powerOnCore, holds, reads}
-use Rattle.registers.specs.Store.{txStored, requestedOf, aborted, canctrlStored, stored}
+use Rattle.stores.specs.Store.{txStored, requestedOf, aborted, canctrlStored, stored}
 use Rattle.receiving.specs.Receiving.{keyOf, matches, lowestFrom, hitFor, verdictOf, bytesStored, receivedOf}
 use Rattle.controller.specs.Sending.{bestOf, choiceOf}
 use Rattle.controller.specs.Events.{heardOf, idled, errorHeard, eventRefusal, eventOf}

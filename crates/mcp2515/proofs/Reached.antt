@@ -30,7 +30,7 @@ use Rattle.registers.specs.State.{ABAT, WAKIF, isConfiguration, isNormal, isLoo
 use Rattle.registers.specs.Errors.{isBusOff, movedTo, tecLess, tecMore}
 use Rattle.registers.specs.Registers.{isProfile, regionOf, writableIn, writableOf, holds, powerOnCore, resetCore}
 use Rattle.registers.specs.Modes.{sendsIn, waits, entered, freeToChange, settledBy, settled}
-use Rattle.registers.specs.Store.{storedIn, stored, modified, aborted, canctrlHeld, canctrlStored, requestedToSend}
+use Rattle.stores.specs.Store.{storedIn, stored, modified, aborted, canctrlHeld, canctrlStored, requestedToSend}
 use Rattle.receiving.specs.declared.Verdict.{Verdict}
 use Rattle.receiving.specs.declared.Verdict.the-variants.{Unmatched, Stored0, Stored1, RolledOver, Lost0, Lost1}
 use Rattle.receiving.specs.declared.Received.{Received}

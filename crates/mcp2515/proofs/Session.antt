@@ -18,6 +18,7 @@ use Rattle.spi.specs.declared.Command.{Command}
 use Rattle.spi.specs.declared.Command.the-variants.{Reset, Read, Write, BitModify, ReadRxBuffer, LoadTxBuffer, Rts, ReadStatus, RxStatus, UnknownCode}
 use Rattle.spi.specs.declared.Instruction.{Instruction}
 use Rattle.spi.specs.declared.Instruction.the-variants.{First, ReadAddress, Reading, WriteAddress, Writing, ModifyAddress, ModifyMask, ModifyData, ReadingBuffer, StatusReply, RxStatusReply, Done}
+use Rattle.receiving.specs.Receiving.{isFull}
 use Rattle.mcp2515.specs.declared.Select.{Select}
 use Rattle.mcp2515.specs.declared.Select.the-variants.{Raised, Lowered}
 use Rattle.spi.specs.declared.Act.{Act}
@@ -26,7 +27,7 @@ use Rattle.mcp2515.specs.declared.Chip.{Chip}
 use Rattle.spi.specs.Instructions.{bufferCommand, commandOf, firstAct, opened, rising, exchangeAct, exchangeNext, highAct, replyTo, acted, refusalOf}
 use Rattle.mcp2515.specs.declared.Stepped.{Stepped}
 use Rattle.mcp2515.specs.Step.{powerOn, askedBy, asked, turnedBy, turned, spiStep, eventStep, stepOf, Outcome, nextChip, outcome}
-use Rattle.mcp2515.specs.Moments.{Role, event, low, exchange, high, other, acceptedRole, roleOf, bytesFrom, most, momentOf, isFull, isFree, allowed, Demand3For}
+use Rattle.mcp2515.specs.Moments.{Role, event, low, exchange, high, other, acceptedRole, roleOf, bytesFrom, most, momentOf, isFree, allowed, Demand3For}
 use Rattle.mcp2515.proofs.CoreFacts.{Good, rxBase, txBase, RxByte, TxByte, CoreFacts}
 use Rattle.mcp2515.proofs.Refused.{exchange-accepted, high-accepted}
 use Rattle.mcp2515.proofs.Swap.{Stage, fresh, sofar, isOther, Event, roleAt, named, Swap, Laws, demand-3-by}
@@ -107,7 +108,7 @@ isStill (Refuse n) = true
 abbrev CalmAct : Core → Act → Type 0
 CalmAct k Rest = Unit {0}
 CalmAct k ResetAll = ⊥
-CalmAct k (Fetch a) = (n : RxBuffer) × RxByte n a × (isFull k n ≡ true)
+CalmAct k (Fetch a) = (n : RxBuffer) × RxByte n a × (isFull (k .control) n ≡ true)
 CalmAct k (Store a b) = (n : TxBuffer) × TxByte n a × (isFree k n ≡ true)
 CalmAct k (Modify a m b) = ⊥
 CalmAct k (RequestToSend m) = ⊥
@@ -422,7 +423,7 @@ module _ (F : CoreFacts) where
   allowed-first Write k g h = h
   allowed-first ReadStatus k g h = h
   allowed-first RxStatus k g h = h
-  allowed-first (ReadRxBuffer n a) k g h = ap (λ (z : Core). isFull z n) g ∙ h
+  allowed-first (ReadRxBuffer n a) k g h = ap (λ (z : Core). isFull (z .control) n) g ∙ h
   allowed-first (LoadTxBuffer n a) k g h = ap (λ (z : Core). isFree z n) g ∙ h
 
   -- A later exchange.
@@ -458,7 +459,7 @@ module _ (F : CoreFacts) where
       let t : RxByte n (a + j) = record { from = omega arith; to = omega arith } in
       rw c (record {
         come = ap (λ (z : ℕ). ReadingBuffer n z) (rises a j (omega (arith, rx-low n)));
-        keeps = ap (λ (z : Core). isFull z n) g ∙ p;
+        keeps = ap (λ (z : Core). isFull (z .control) n) g ∙ p;
         calm = λ _. (n, t, p);
         still = λ z. absurd (omega arith);
       })

@@ -7,15 +7,13 @@ use mathlib.Core.Path.{_≡_}
 use Prim.Native.Nat.{ℕ, zero, suc, _+_, _-_, _%_}
 use lib.ListN.{length}
 use lib.Dec.{eqb, leb}
-use Rattle.bits.specs.Bit.{hasBit}
 use Rattle.records.specs.declared.Kind.{Kind}
 use Rattle.records.specs.declared.Kind.the-variants.{SelectLow, Exchange, SelectHigh, FrameHeard, BusIdle, FrameEnds, ReceiveError, Recovery, Unknown}
 use Rattle.records.specs.Records.{byteAt, kindOf, isEvent}
-use Rattle.registers.specs.declared.RxBuffer.{RxBuffer}
 use Rattle.registers.specs.declared.TxBuffer.{TxBuffer}
 use Rattle.registers.specs.declared.Core.{Core}
-use Rattle.registers.specs.State.{rxFlag}
-use Rattle.registers.specs.Store.{isLocked}
+use Rattle.receiving.specs.Receiving.{isFull}
+use Rattle.stores.specs.Store.{isLocked}
 use Rattle.spi.specs.declared.Command.{Command}
 use Rattle.spi.specs.declared.Command.the-variants.{Reset, Read, Write, BitModify, ReadRxBuffer, LoadTxBuffer, Rts, ReadStatus, RxStatus, UnknownCode}
 use Rattle.mcp2515.specs.declared.Chip.{Chip}
@@ -114,13 +112,11 @@ momentOf (ReadRxBuffer b a) = 1 + bytesFrom a
 momentOf (LoadTxBuffer b a) = 1 + bytesFrom a
 momentOf UnknownCode = 1
 
--- asked at select low: that RXnIF is set; that the buffer neither has TXREQ nor is in flight
-abbrev pub isFull : Core → RxBuffer → Bool
-isFull k b = hasBit (k .control .flags .canintf) (rxFlag b)
-
+-- the buffer neither has TXREQ nor is in flight
 abbrev pub isFree : Core → TxBuffer → Bool
 isFree k b = not (isLocked (k .control) b)
 
+-- asked at select low: READ RX BUFFER wants its RXnIF set, LOAD TX BUFFER a free buffer
 abbrev pub allowed : Core → Command → Bool
 allowed k Reset = true
 allowed k (Rts m) = true
@@ -129,7 +125,7 @@ allowed k Read = true
 allowed k Write = true
 allowed k ReadStatus = true
 allowed k RxStatus = true
-allowed k (ReadRxBuffer b a) = isFull k b
+allowed k (ReadRxBuffer b a) = isFull (k .control) b
 allowed k (LoadTxBuffer b a) = isFree k b
 allowed k UnknownCode = true
 

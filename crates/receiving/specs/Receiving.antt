@@ -13,9 +13,9 @@ use Rattle.registers.specs.declared.RxBuffer.the-variants.{Rxb0, Rxb1}
 use Rattle.registers.specs.declared.RxControl.{RxControl}
 use Rattle.registers.specs.declared.Control.{Control}
 use Rattle.registers.specs.declared.Core.{Core}
-use Rattle.registers.specs.State.{RX0IF, RX1IF, ERRIF, BUKT, withRx, withCanintf, withEflg}
+use Rattle.registers.specs.State.{RX0IF, RX1IF, ERRIF, BUKT, rxFlag, withRx, withCanintf, withEflg}
 use Rattle.registers.specs.Registers.{rxControl}
-use Rattle.registers.specs.Store.{updated}
+use Rattle.registers.specs.State.{updated}
 use Rattle.receiving.specs.declared.Key.{Key}
 use Rattle.receiving.specs.declared.Hit.{Hit}
 use Rattle.receiving.specs.declared.Hit.the-variants.{Filter, Miss}
@@ -112,23 +112,20 @@ unfoldable pub hitFor : Control → List ℕ → Key → RxBuffer → Hit
 hitFor c config q b = cond (takesAny (rxControl (c .rx) b)) (Filter 0) (lowestFor config q b)
 
 -- ---- which buffer
-abbrev pub isFull0 : Control → Bool
-isFull0 c = hasBit (c .flags .canintf) RX0IF
-
-abbrev pub isFull1 : Control → Bool
-isFull1 c = hasBit (c .flags .canintf) RX1IF
+abbrev pub isFull : Control → RxBuffer → Bool
+isFull c b = hasBit (c .flags .canintf) (rxFlag b)
 
 -- matched for RXB0: with RX0IF set and BUKT set it goes to RXB1, or is lost if RX1IF is set too; without BUKT it is lost; with RX0IF clear it is stored
 abbrev pub verdict0 : Control → ℕ → Verdict
 verdict0 c h =
-    cond (isFull0 c)
-    (cond (hasBit (c .rx .rxb0) BUKT) (cond (isFull1 c) Lost1 (RolledOver h)) Lost0)
+    cond (isFull c Rxb0)
+    (cond (hasBit (c .rx .rxb0) BUKT) (cond (isFull c Rxb1) Lost1 (RolledOver h)) Lost0)
     (Stored0 h)
 
 -- RXB1 is asked about a frame just where RXB0 does not match it; if RX1IF is set the frame is lost
 abbrev pub verdict1 : Control → Hit → Verdict
 verdict1 c Miss = Unmatched
-verdict1 c (Filter h) = cond (isFull1 c) Lost1 (Stored1 h)
+verdict1 c (Filter h) = cond (isFull c Rxb1) Lost1 (Stored1 h)
 
 abbrev pub verdictBy : Control → Hit → Hit → Verdict
 verdictBy c (Filter h) other = verdict0 c h

@@ -3,8 +3,7 @@ ghost use mathlib.Core.Path.{_≡_};
 ghost use Rattle.receiving.specs.Receiving.{
   receptionNumber,
   hitFor,
-  isFull0,
-  isFull1,
+  isFull,
   verdict0,
   verdict1,
   verdictBy,
@@ -52,14 +51,14 @@ pub fn reception_number(r: Reception) -> u8
 }
 
 fn is_full0(c: Control) -> bool
-    ensures { λ r. ⌜ r ≡ isFull0 c ⌝ }
+    ensures { λ r. ⌜ r ≡ isFull c RxBuffer.Rxb0 ⌝ }
 {
     let f = c.flags.canintf;
     bits::has(f, 0)
 }
 
 fn is_full1(c: Control) -> bool
-    ensures { λ r. ⌜ r ≡ isFull1 c ⌝ }
+    ensures { λ r. ⌜ r ≡ isFull c RxBuffer.Rxb1 ⌝ }
 {
     let f = c.flags.canintf;
     f / 2 % 2 == 1

@@ -2,4 +2,3 @@ pub mod State
 pub mod Registers
 pub mod Errors
 pub mod Modes
-pub mod Store

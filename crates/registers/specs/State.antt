@@ -3,6 +3,8 @@ use Prim.Native.Nat.{ℕ}
 use mathlib.Core.Bool.{Bool, true, false, cond}
 use mathlib.Core.List.{List}
 use lib.Dec.{eqb}
+use lib.ListN.{getD, set}
+use Rattle.bits.specs.Bit.{hasBit}
 use Rattle.registers.specs.declared.Mode.{Mode}
 use Rattle.registers.specs.declared.Mode.the-variants.{Normal, Sleep, Loopback, ListenOnly, Configuration}
 use Rattle.registers.specs.declared.TxBuffer.{TxBuffer}
@@ -189,3 +191,11 @@ withConfig k l = record { control = k .control; config = l; tx = k .tx; rx = k .
 
 abbrev pub withTxBytes : Core → List ℕ → Core
 withTxBytes k l = record { control = k .control; config = k .config; tx = l; rx = k .rx }
+
+-- ---- a list of bytes with the one at an index passed through f
+abbrev pub updated : List ℕ → ℕ → (ℕ → ℕ) → List ℕ
+updated l i f = set l i (f (getD l i 0))
+
+-- ---- ABAT stands in CANCTRL
+abbrev pub abortsAll : Control → Bool
+abortsAll c = hasBit (c .flags .canctrl) ABAT

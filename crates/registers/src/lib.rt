@@ -1,8 +1,8 @@
-// The registers and the state of the CAN side: what an address holds and reads, what a store does, modes and error counters.
+// The registers and the state of the CAN side: what an address holds and reads, modes and error counters.
 mod errors;
 mod map;
 mod modes;
-mod stores;
+mod parts;
 
 pub use errors::counters_zero;
 pub use errors::is_bus_off;
@@ -23,22 +23,19 @@ pub use modes::is_configuration;
 pub use modes::is_loopback;
 pub use modes::is_normal;
 pub use modes::mode_number;
+pub use modes::request_in;
 pub use modes::sends_in;
 pub use modes::settle;
 pub use modes::waits_in;
-pub use stores::aborts_all;
-pub use stores::in_flight;
-pub use stores::is_idle;
-pub use stores::is_locked;
-pub use stores::modify;
-pub use stores::request_to_send;
-pub use stores::same_tx;
-pub use stores::store;
-pub use stores::tx_control;
-pub use stores::tx_number;
-pub use stores::with_control;
-pub use stores::with_tx_control;
-pub use stores::writable;
+pub use modes::with_request;
+pub use parts::aborts_all;
+pub use parts::in_flight;
+pub use parts::is_idle;
+pub use parts::same_tx;
+pub use parts::tx_control;
+pub use parts::tx_number;
+pub use parts::with_control;
+pub use parts::with_tx_control;
 
 pub enum Mode {
     Normal,

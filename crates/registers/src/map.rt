@@ -40,7 +40,7 @@ use crate::errors::counters_zero;
 use crate::errors::error_flags;
 use crate::modes::is_configuration;
 use crate::modes::mode_number;
-use crate::stores::tx_control;
+use crate::parts::tx_control;
 
 fn tx_at(a: u8) -> TxBuffer
     ensures { λ r. ⌜ r ≡ txAt a ⌝ }

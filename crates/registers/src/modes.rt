@@ -18,7 +18,7 @@ use crate::Request;
 use crate::State;
 use crate::TxControl;
 use crate::errors::counters_zero;
-use crate::stores::is_idle;
+use crate::parts::is_idle;
 
 pub fn mode_number(m: Mode) -> u8
     ensures { λ r. ⌜ r ≡ modeNumber m ⌝ }

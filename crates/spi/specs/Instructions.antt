@@ -14,7 +14,7 @@ use Rattle.registers.specs.declared.Control.{Control}
 use Rattle.registers.specs.declared.Core.{Core}
 use Rattle.registers.specs.State.{RX0IF, RX1IF, TX0IF, TX1IF, TX2IF, TXREQ, RXRTR, rxFlag, withCanintf, withControl}
 use Rattle.registers.specs.Registers.{reads, resetCore}
-use Rattle.registers.specs.Store.{stored, modified, requestedToSend}
+use Rattle.stores.specs.Store.{stored, modified, requestedToSend}
 use Rattle.registers.specs.Modes.{settled}
 use Rattle.controller.specs.Events.{settledCore}
 use Rattle.spi.specs.declared.Command.{Command}

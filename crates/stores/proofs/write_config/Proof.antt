@@ -1,0 +1,28 @@
+use Rattle.registers.specs.Registers.{writableOf}
+use borrow.Author.Needs.{needs}
+use Rattle.stores.proofs.write_config.Statement.{statement}
+use Rattle.stores.proofs.write_config.Tie as tie
+
+cast-i : tie.Need-cast-i
+cast-i c = search needs
+
+mask-at-requires : tie.Need-mask-at-requires
+mask-at-requires c κs = search needs
+
+element-copy-out-old : tie.Need-element-copy-out-old
+element-copy-out-old c = search needs
+
+write-requires : tie.Need-write-requires
+write-requires c κs = search needs
+
+element-write-d : tie.Need-element-write-d
+element-write-d c = search needs
+
+returns : tie.Need-returns
+unfolding writableOf
+returns c = simp (c .write .ensures, c .before .before .mask-at .ensures)
+
+pub write-config-spec : {M : Type 1} → statement M
+write-config-spec =
+    tie.close
+    (tie.spec cast-i mask-at-requires element-copy-out-old write-requires element-write-d returns)
