@@ -41,9 +41,17 @@ printf '1 0 0\n2 0 0\n3 0 0\n4 0 128\n5 0 0\n' >"$work/want"
 "$replay" "$logs/five.log" >"$work/got"
 check_run "the five-record example" $?
 
-"$replay" "$work/no-such.log" >"$work/got" 2>"$work/message"
-[ $? -lt 126 ] || stop "a file that is not there: ended by a signal"
-[ ! -s "$work/got" ] || stop "a file that is not there: expected nothing on standard output"
-[ -s "$work/message" ] || stop "a file that is not there: expected a message on standard error"
+# A log that gives nothing: no line, and a message.
+check_failure() {
+    "$replay" "$2" >"$work/got" 2>"$work/message"
+    [ $? -lt 126 ] || stop "$1: ended by a signal"
+    [ ! -s "$work/got" ] || stop "$1: expected nothing on standard output"
+    [ -s "$work/message" ] || stop "$1: expected a message on standard error"
+}
+
+check_failure "a file that is not there" "$work/no-such.log"
+check_failure "a directory" "$work"
+# This one opens, and its first byte cannot be read.
+check_failure "a file that cannot be read" /proc/self/mem
 
 echo "replay check: $(ls "$logs"/*.log | wc -l) logs agree"

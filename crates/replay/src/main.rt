@@ -27,6 +27,14 @@ fn stretch_buffer() -> [u8; STRETCH]
     [0; STRETCH]
 }
 
+// A read that fails looks like the end of the log; one more read tells the two apart.
+fn report_failed_read(fd: i32) {
+    let mut byte = [0u8; 1];
+    if libc::read(fd, &mut byte) < 0 {
+        os::fail(b"reading the log");
+    }
+}
+
 // Reads a stretch, renders it and writes its text at once.
 fn replay_stretch(fd: i32, p: Progress) -> Progress {
     let mut input = stretch_buffer();
@@ -38,6 +46,9 @@ fn replay_stretch(fd: i32, p: Progress) -> Progress {
     let written = io::write_all(STDOUT_FILENO, &output[..len]);
     if !written {
         os::fail(b"standard output");
+    }
+    if size < STRETCH {
+        report_failed_read(fd);
     }
     let next = rendered.chip;
     Progress {
