@@ -1,6 +1,7 @@
 -- One byte: its bits, and the changes that a register takes.
-use Prim.Native.Nat.{ℕ, _-_, _/_, _%_, _^_}
-use mathlib.Core.Bool.{Bool, cond}
+use Prim.Native.Nat.{ℕ, _-_, _/_, _%_, _^_, _<_}
+use mathlib.Core.Bool.{Bool, true, cond, not, _&&_, _||_}
+use mathlib.Core.Path.{_≡_}
 use lib.Dec.{eqb, ltb}
 use lib.Bits.{bitAnd, bitOr}
 
@@ -34,3 +35,20 @@ written takes mask old new = cond takes (merged mask old new) old
 -- the two agree in every bit of the mask
 abbrev pub agreeUnder : ℕ → ℕ → ℕ → Bool
 agreeUnder mask a b = eqb (bitAnd a mask) (bitAnd b mask)
+
+-- ---- set, clear, merge and compare, bit by bit; proved in proofs/Laws
+abbrev pub SetBitwise : Type 0
+SetBitwise = (x i j : ℕ) → i < 8 → j < 8 → hasBit (setBit x i) j ≡ (eqb i j || hasBit x j)
+
+abbrev pub ClearBitwise : Type 0
+ClearBitwise = (x i j : ℕ) → i < 8 → j < 8 → hasBit (clearBit x i) j ≡ (not (eqb i j) && hasBit x j)
+
+abbrev pub MergedBitwise : Type 0
+MergedBitwise = (mask old new k : ℕ) → mask < 256 → k < 8 → bit (merged mask old new) k ≡ cond (hasBit mask k) (bit new k) (bit old k)
+
+abbrev pub SameUnder : ℕ → ℕ → ℕ → Type 0
+SameUnder mask a b = (k : ℕ) → k < 8 → hasBit mask k ≡ true → bit a k ≡ bit b k
+
+abbrev pub AgreeBitwise : Type 0
+AgreeBitwise =
+    (mask a b : ℕ) → mask < 256 → (agreeUnder mask a b ≡ true → SameUnder mask a b) × (SameUnder mask a b → agreeUnder mask a b ≡ true)
