@@ -64,6 +64,8 @@ fn is_event_at(log: &[u8], at: usize) -> bool
 
 // Runs count records over a chip and stores refusal and answer of each. It does what `mcp2515::step` does, part by
 // part, so that the chip changes where it lies; the step by value copies the whole chip at each record.
+// The two branches read their record by different calls: by one and the same, the compiler takes all 16 bytes apart
+// ahead of the branch.
 fn run_records(chip: Chip, log: &[u8], answers: &mut [u8], count: usize)
     requires { ⌜ (count * recordSize ≤ length (now log)) × (answerRoom count ≤ length (now answers)) ⌝ }
     ensures { λ _. ⌜ now (answers .exit) ≡ sets (now (answers .entry)) 0 (answersOf (stepsOf count chip (now (log .entry)))) ⌝ }

@@ -26,7 +26,7 @@ use Rattle.controller.specs.declared.End.{End}
 use Rattle.controller.specs.declared.End.the-variants.{Sent, LostArbitration, Failed}
 use Rattle.controller.specs.declared.Happened.{Happened}
 use Rattle.controller.specs.declared.Told.{Told}
-use Rattle.controller.specs.Sending.{choiceNumber, choiceOf, started, endOf, counted, sentBy, endedBy, frameSent}
+use Rattle.controller.specs.Sending.{choiceNumber, choiceOf, started, endOf, sentBy, endedBy, frameSent}
 
 -- ---- kind 3: a frame
 abbrev pub ignored : Core → Received

@@ -1,6 +1,6 @@
 -- Sending: the choice at bus idle and the three ends of an own frame.
 use Prim.Native.Nat.{ℕ, _+_, _*_, _/_, _%_, min, max}
-use mathlib.Core.Bool.{Bool, true, false, cond, not, _&&_}
+use mathlib.Core.Bool.{Bool, cond, not, _&&_}
 use mathlib.Core.List.{List, [], _∷_}
 use lib.Dec.{eqb, leb}
 use lib.ListN.{getD}

@@ -1,10 +1,10 @@
 -- What the tidied list keeps, of any list of entries. Assumes nothing.
-use mathlib.Core.Bool.{Bool, true, false, cond}
+use mathlib.Core.Bool.{Bool, true, false}
 use mathlib.Core.List.{List, [], _∷_, _++_, append-assoc, append-nil, cons-ne-nil}
 use mathlib.Core.Option.{Option, none, some}
 use mathlib.Core.Path.{_≡_, refl, sym, ap, ap₂, subst, _∙_}
 use Prim.Native.Nat.{ℕ, zero, suc}
-use Rattle.mcp2515.specs.Moments.{Role, event, low, exchange, high, other, roleOf, isEventRole, isLow, isExchange, isHigh, Entry, roleIn, listed, events, others, bytes, before, after, placed, session, Place, outside, inside, tidyFrom, tidy, SameOrder, Still, Apart, TidyKept, Inner, TidyIs}
+use Rattle.mcp2515.specs.Moments.{Role, event, low, exchange, high, other, isEventRole, isLow, isExchange, isHigh, Entry, roleIn, listed, events, others, bytes, before, after, placed, session, outside, inside, tidyFrom, tidy, SameOrder, Still, Apart, TidyKept, Inner, TidyIs}
 
 -- ---- events and others are two halves of a list
 -- Both go by the role of the head.

@@ -47,7 +47,7 @@ use Rattle.spi.specs.declared.Act.the-variants.{Rest, ResetAll, Fetch, Store, M
 use Rattle.mcp2515.specs.declared.Chip.{Chip}
 use Rattle.mcp2515.specs.declared.Stepped.{Stepped}
 use Rattle.spi.specs.Instructions.{clearedOf, acted, isWrite}
-use Rattle.spi.proofs.Parts.{clash}
+use Rattle.spi.proofs.Parts.{clash, acts-within}
 use Rattle.mcp2515.specs.Step.{powerOn, asked, stepOf, nextChip, chipAfter}
 use Rattle.mcp2515.specs.Runs.{SettledReached, isPending, PendingReached, FlightReached, FilterKept, FiltersLocked, FiltersWritten}
 use Rattle.mcp2515.proofs.CoreFacts.{Good}
@@ -284,16 +284,7 @@ stored-filter (RxCtrl b) k x v i m ne = refl
 stored-filter RxMessage k x v i m ne = refl
 
 written-config : (x : Act) (k : Core) → isWrite x ≡ false → acted x k .config ≡ k .config
-written-config Rest k e = refl
-written-config ResetAll k e = clash e
-written-config (Fetch a) k e = refl
-written-config (Store a v) k e = clash e
-written-config (Modify a m v) k e = clash e
-written-config (RequestToSend m) k e = refl
-written-config (ClearFlag n) k e = refl
-written-config FetchStatus k e = refl
-written-config FetchRxStatus k e = refl
-written-config (Refuse n) k e = refl
+written-config x k e = ap (λ (j : Core). j .config) (acts-within x k e)
 
 stored-kept : (k : Core) (s v a : ℕ) → isConfiguration (k .control .state .mode) ≡ false → regionOf (a % 128) ≡ Profile
     → holds (settledCore (stored k s v)) a ≡ holds k a

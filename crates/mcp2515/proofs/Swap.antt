@@ -15,7 +15,7 @@ use Rattle.spi.specs.declared.Command.{Command}
 use Rattle.mcp2515.specs.declared.Chip.{Chip}
 use Rattle.spi.specs.Instructions.{commandOf}
 use Rattle.mcp2515.specs.Step.{powerOn, Outcome, nextChip, outcome, chipAfter, outcomes}
-use Rattle.mcp2515.specs.Moments.{Role, event, low, exchange, high, other, acceptedRole, roleOf, isEventRole, isLow, isExchange, isHigh, Entry, roleIn, trace, most, momentOf, allowed, listed, events, others, bytes, before, after, placed, session, Place, outside, inside, tidyFrom, tidy, records, outs, Demand3For}
+use Rattle.mcp2515.specs.Moments.{Role, event, low, exchange, high, other, acceptedRole, roleOf, isEventRole, isLow, isHigh, Entry, roleIn, trace, most, momentOf, allowed, listed, events, others, bytes, before, after, placed, session, outside, inside, tidyFrom, tidy, records, outs, Demand3For}
 
 -- How far a session has come: no exchange yet, or j exchanges behind the first, which named this command.
 pub data Stage : Type 0 where
@@ -108,14 +108,17 @@ accepted-event Recovery e = refl
 accepted-event Unknown e = cc
 
 -- Only an event has the role of one.
+role-of-event : (κ : Kind) (b : Bool) → cond b (acceptedRole κ) other ≡ event → isEvent κ ≡ true
+role-of-event κ true e = accepted-event κ e
+role-of-event κ false e = cc
+
 event-of : (r : List ℕ) (o : Outcome) → roleOf r o ≡ event → Event r
 unfolding roleOf
-event-of r o e = go (isEvent (kindOf r)) (eqb (o .refusal) 0) refl e
+event-of r o e = go (isEvent (kindOf r)) refl (λ h. role-of-event (kindOf r) (eqb (o .refusal) 0) (rw h at e))
   where
-    go : (v b : Bool) → isEvent (kindOf r) ≡ v → cond v event (cond b (acceptedRole (kindOf r)) other) ≡ event → isEvent (kindOf r) ≡ true
-    go true b h e = h
-    go false true h e = accepted-event (kindOf r) e
-    go false false h e = cc
+    go : (v : Bool) → isEvent (kindOf r) ≡ v → (isEvent (kindOf r) ≡ false → Event r) → Event r
+    go true h f = h
+    go false h f = f h
 
 none-some : (k : ℕ) → none ≡ some k → ⊥
 none-some k e = let z : _≡_ {A = ℕ} 0 1 = cc in omega arith

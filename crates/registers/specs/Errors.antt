@@ -1,6 +1,6 @@
 -- Errors: the error flags of EFLG, and ERRIF where a counter moves.
 use Prim.Native.Nat.{ℕ, _-_, _+_, min}
-use mathlib.Core.Bool.{Bool, true, false, cond, not, _&&_, _||_}
+use mathlib.Core.Bool.{Bool, cond, not, _||_}
 use lib.Dec.{eqb, ltb, leb}
 use lib.Bits.{bitAnd, bitOr}
 use Rattle.bits.specs.Bit.{setBit}

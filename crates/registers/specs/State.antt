@@ -1,6 +1,6 @@
 -- The state that the rules carry from step to step, without the SPI side: names of bits, numbers of the enums, and one setter for each part.
 use Prim.Native.Nat.{ℕ}
-use mathlib.Core.Bool.{Bool, true, false, cond}
+use mathlib.Core.Bool.{Bool, true, false}
 use mathlib.Core.List.{List}
 use lib.Dec.{eqb}
 use lib.ListN.{getD, set}

@@ -214,6 +214,7 @@ isWrite FetchStatus = false
 isWrite FetchRxStatus = false
 isWrite (Refuse n) = false
 
+-- the control registers after an act that writes no byte; of one that does, they come with its bytes, and nothing is said here
 abbrev pub controlled : Act → Control → Control
 controlled Rest c = settled c
 controlled ResetAll c = c

@@ -1,7 +1,6 @@
 -- A store of one byte, with the rules of the address: Configuration-only registers, locked TX bytes, TXREQ, ABAT and mode requests.
 use Prim.Native.Nat.{ℕ, _/_, _%_, _-_}
-use mathlib.Core.Bool.{Bool, true, false, cond, not, _&&_, _||_}
-use mathlib.Core.List.{List}
+use mathlib.Core.Bool.{Bool, true, cond, not, _&&_, _||_}
 use lib.Dec.{eqb, ltb}
 use lib.Bits.{bitAnd}
 use Rattle.bits.specs.Bit.{hasBit, setBit, clearBit, merged, written}
@@ -15,7 +14,7 @@ use Rattle.registers.specs.declared.RxControl.{RxControl}
 use Rattle.registers.specs.declared.Control.{Control}
 use Rattle.registers.specs.declared.Core.{Core}
 use Rattle.registers.specs.State.{ABAT, abortsAll, updated, TXREQ, ABTF, BUKT1, BUKT, isConfiguration, inFlight, txControl, withTxControl, withTx, withRx, withCanctrl, withCaninte, withCanintf, withEflg, withRequest, withControl, withConfig, withTxBytes}
-use Rattle.registers.specs.Registers.{regionOf, writableOf, transmitBits, receiveBits, rxControl, holds}
+use Rattle.registers.specs.Registers.{regionOf, writableOf, transmitBits, receiveBits, holds}
 use Rattle.registers.specs.Modes.{requestIn}
 
 -- ---- TXBnCTRL

@@ -1,4 +1,3 @@
-use mathlib.Core.Path.{sym}
 use borrow.Author.Needs.{needs}
 use Rattle.records.specs.Records.{kindOf}
 use Rattle.bus_log.proofs.Steps.{first-byte}

@@ -1,5 +1,5 @@
 -- The loop's invariant: with the answers of the records left stored from out on, the buffer is as the contract says. The measure is the records left. Assumes nothing.
-use mathlib.Core.Bool.{true, false}
+use mathlib.Core.Bool.{false}
 use mathlib.Core.List.{[], _∷_}
 use mathlib.Core.Logic.{inl, inr}
 use mathlib.Core.Path.{_≡_, refl, sym, _∙_}
@@ -8,7 +8,6 @@ use native.Mathlib.Omega.{arith}
 use borrow.Author.Needs.{needs}
 use lib.ListN.{length, drop, length-set}
 use lib.Seq.{sets, length-sets}
-use Rattle.records.specs.Records.{kindOf, isEvent}
 use Rattle.spi.specs.Instructions.{isWrite}
 use Rattle.mcp2515.specs.Step.{asked, stepOf}
 use Rattle.bus_log.specs.Log.{recordSize, recordAt, stepsOf, answersOf}

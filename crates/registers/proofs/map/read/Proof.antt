@@ -1,8 +1,5 @@
-use mathlib.Core.Bool.{true, false, not, _&&_}
-use mathlib.Core.Path.{_≡_, sym, _∙_}
-use Prim.Native.Nat.{_%_}
-use Rattle.registers.specs.State.{isConfiguration}
-use Rattle.registers.specs.Registers.{regionOf, isProfile, holds, reads}
+use mathlib.Core.Path.{sym, _∙_}
+use Rattle.registers.specs.Registers.{holds, reads}
 use borrow.Author.Needs.{needs}
 use Rattle.registers.proofs.map.read.Statement.{statement}
 use Rattle.registers.proofs.map.read.Tie as tie
