@@ -1,13 +1,14 @@
 // A recorded bus log, run through the chip from power-on, and the call for C.
 ghost use mathlib.Core.Path.{_≡_};
-ghost use mathlib.Core.List.{[], _∷_};
 ghost use Prim.Native.Nat.{_+_, _*_, _≤_};
-ghost use lib.ListN.{length, take, drop};
+ghost use lib.ListN.{length, take, drop, replicate};
 ghost use lib.Seq.{sets};
-ghost use Rattle.records.specs.Records.{kindOf, isEvent};
+ghost use Rattle.records.specs.Records.{recordOf};
+ghost use Rattle.image.specs.Image.{imageSize};
+ghost use Rattle.mcp2515.specs.ChipImage.{chipOf};
 ghost use Rattle.bus_log.specs.Log.{recordSize, recordAt, stepsOf, answersOf};
 ghost use Rattle.bus_log.specs.Run.{answerRoom, runRefusal, runResult, runAnswers};
-use mcp2515::Chip;
+use records::Fields;
 
 pub const RECORD_SIZE: usize = 16;
 
@@ -26,76 +27,71 @@ pub const ROOM_REFUSAL: u8 = 7;
 // There are more records than a log may have.
 pub const COUNT_REFUSAL: u8 = 8;
 
-fn copy_record(log: &[u8], at: usize) -> [u8; RECORD_SIZE]
+// The record at a place of the log, taken apart.
+fn fields_within(log: &[u8], at: usize) -> Fields
     requires { ⌜ at + recordSize ≤ length (now log) ⌝ }
-    ensures { λ r. ⌜ r ≡ take recordSize (drop at (now (log .entry))) ⌝ }
+    ensures { λ r. ⌜ recordOf r ≡ take recordSize (drop at (now (log .entry))) ⌝ }
 {
-    let mut bytes = [0u8; RECORD_SIZE];
-    let mut i = 0;
-    while i < RECORD_SIZE {
-        bytes[i] = log[at + i];
-        i += 1;
+    Fields {
+        kind: log[at],
+        field: log[at + 1],
+        length: log[at + 2],
+        spare: log[at + 3],
+        identifier: records::joined(log[at + 4], log[at + 5], log[at + 6], log[at + 7]),
+        data: records::word(
+            log[at + 8],
+            log[at + 9],
+            log[at + 10],
+            log[at + 11],
+            log[at + 12],
+            log[at + 13],
+            log[at + 14],
+            log[at + 15],
+        ),
     }
-    bytes
+}
+
+fn no_fields() -> Fields
+    ensures { λ r. ⌜ recordOf r ≡ replicate recordSize 0 ⌝ }
+{
+    Fields {
+        kind: 0,
+        field: 0,
+        length: 0,
+        spare: 0,
+        identifier: 0,
+        data: 0,
+    }
 }
 
 // The record at a place of the log. Zeros stand for one that is not whole, so that a caller has no
 // length to show.
-pub fn record_at(log: &[u8], at: usize) -> [u8; RECORD_SIZE]
-    ensures { λ r. ⌜ r ≡ recordAt (now (log .entry)) at ⌝ }
+pub fn fields_at(log: &[u8], at: usize) -> Fields
+    ensures { λ r. ⌜ recordOf r ≡ recordAt (now (log .entry)) at ⌝ }
 {
     let size = log.len();
     if size < at {
-        return [0u8; RECORD_SIZE];
+        return no_fields();
     }
     if size - at < RECORD_SIZE {
-        return [0u8; RECORD_SIZE];
+        return no_fields();
     }
-    copy_record(log, at)
+    fields_within(log, at)
 }
 
-// Whether the record at a place of the log is a bus event.
-fn is_event_at(log: &[u8], at: usize) -> bool
-    requires { ⌜ at + recordSize ≤ length (now log) ⌝ }
-    ensures { λ r. ⌜ r ≡ isEvent (kindOf (recordAt (now (log .entry)) at)) ⌝ }
+// Runs count records over an image and stores refusal and answer of each.
+fn run_records<'a>(image: &'a mut [u8], log: &'a [u8], answers: &'a mut [u8], count: usize)
+    requires { ⌜ (length (now image) ≡ imageSize) × (count * recordSize ≤ length (now log)) × (answerRoom count ≤ length (now answers)) ⌝ }
+    ensures { λ _. ⌜ now (answers .exit) ≡ sets (now (answers .entry)) 0 (answersOf (stepsOf count (chipOf (now (image .entry))) (now (log .entry)))) ⌝ }
 {
-    records::is_event(records::kind_by(log[at]))
-}
-
-// Runs count records over a chip and stores refusal and answer of each. It does what `mcp2515::step` does, part by
-// part, so that the chip changes where it lies; the step by value copies the whole chip at each record.
-// The two branches read their record by different calls: by one and the same, the compiler takes all 16 bytes apart
-// ahead of the branch.
-fn run_records(chip: Chip, log: &[u8], answers: &mut [u8], count: usize)
-    requires { ⌜ (count * recordSize ≤ length (now log)) × (answerRoom count ≤ length (now answers)) ⌝ }
-    ensures { λ _. ⌜ now (answers .exit) ≡ sets (now (answers .entry)) 0 (answersOf (stepsOf count chip (now (log .entry)))) ⌝ }
-{
-    let mut core = chip.core;
-    let mut select = chip.select;
     let mut left = count;
     let mut at = 0;
     let mut out = 0;
     while left > 0 {
         let second = out + 1;
-        if is_event_at(log, at) {
-            let told = controller::event(core, record_at(log, at));
-            answers[out] = told.refusal;
-            answers[second] = told.answer;
-            core = told.core;
-        } else {
-            let turned = mcp2515::turn(select, copy_record(log, at));
-            let act = turned.act;
-            let effect = spi::perform(act, core);
-            answers[out] = effect.refusal;
-            answers[second] = effect.reply;
-            if effect.writes {
-                core = spi::apply(act, core);
-            } else {
-                let control = effect.control;
-                core.control = control;
-            }
-            select = turned.select;
-        }
+        let told = mcp2515::step_in_place(image, fields_within(log, at));
+        answers[out] = told.refusal;
+        answers[second] = told.answer;
         at += RECORD_SIZE;
         out += ANSWER_SIZE;
         left -= 1;
@@ -133,6 +129,7 @@ pub extern "C" fn mcp2515_run_log(log: &[u8], answers: &mut [u8]) -> i64
         return -(refusal as i64);
     }
     let count = size / RECORD_SIZE;
-    run_records(mcp2515::power_on(), log, answers, count);
+    let mut image = image::power_on();
+    run_records(&mut image, log, answers, count);
     count as i64
 }

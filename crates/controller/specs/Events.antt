@@ -7,6 +7,7 @@ use Rattle.bits.specs.Bit.{hasBit, setBit}
 use Rattle.records.specs.declared.Kind.{Kind}
 use Rattle.records.specs.declared.Kind.the-variants.{SelectLow, Exchange, SelectHigh, FrameHeard, BusIdle, FrameEnds, ReceiveError, Recovery, Unknown}
 use Rattle.records.specs.declared.Frame.{Frame}
+use Rattle.records.specs.declared.Outcome.{Outcome}
 use Rattle.records.specs.Records.{accepted, refusedField, refusedInFlight, refusedNoFlight, refusedState, byteAt, kindOf, frameOf, soundOf}
 use Rattle.registers.specs.declared.Mode.{Mode}
 use Rattle.registers.specs.declared.Mode.the-variants.{Normal, Sleep, Loopback, ListenOnly, Configuration}
@@ -18,15 +19,23 @@ use Rattle.registers.specs.declared.Core.{Core}
 use Rattle.registers.specs.State.{WAKIF, MERRF, isNormal, isLoopback, isIdle, withCounters, withCanintf, withControl}
 use Rattle.registers.specs.Errors.{isBusOff, movedTo, recLess, recMore, noErrors}
 use Rattle.registers.specs.Modes.{entered, settled}
-use Rattle.receiving.specs.declared.Received.{Received}
 use Rattle.receiving.specs.declared.Reception.{Reception}
 use Rattle.receiving.specs.declared.Reception.the-variants.{NotListening, Woke}
-use Rattle.receiving.specs.Receiving.{receptionNumber, receivedOf}
+use Rattle.receiving.specs.Receiving.{receptionNumber, Received, receivedOf}
 use Rattle.controller.specs.declared.End.{End}
 use Rattle.controller.specs.declared.End.the-variants.{Sent, LostArbitration, Failed}
-use Rattle.controller.specs.declared.Happened.{Happened}
-use Rattle.controller.specs.declared.Told.{Told}
 use Rattle.controller.specs.Sending.{choiceNumber, choiceOf, started, endOf, sentBy, endedBy, frameSent}
+
+-- an accepted event, before a mode request is carried out
+pub record Happened : Type 0 where
+  pub answer : ℕ
+  pub core : Core
+
+-- an event, accepted or refused
+pub record Told : Type 0 where
+  pub refusal : ℕ
+  pub answer : ℕ
+  pub core : Core
 
 -- ---- kind 3: a frame
 abbrev pub ignored : Core → Received
@@ -158,3 +167,11 @@ refusedBy n k = record { refusal = n; answer = 0; core = k }
 unfoldable pub eventOf : Core → List ℕ → Told
 eventOf k r =
     cond (eqb (eventRefusal (k .control) r) accepted) (toldOf (happensBy (kindOf r) k r)) (refusedBy (eventRefusal (k .control) r) k)
+
+-- what an event tells beside the core
+abbrev pub outcomeTold : Told → Outcome
+outcomeTold t = record { refusal = t .refusal; answer = t .answer }
+
+-- bytes that are no image are told off as a field out of range
+abbrev pub notAnImage : Outcome
+notAnImage = record { refusal = refusedField; answer = 0 }

@@ -1,12 +1,12 @@
 // Bus events: when one is refused, its answer, and the core after it.
 ghost use mathlib.Core.Path.{_≡_};
 ghost use mathlib.Core.Bool.{cond, not, _&&_};
-ghost use lib.Dec.{eqb};
-ghost use lib.ListN.{getD};
-ghost use Rattle.bits.specs.Bit.{hasBit};
-ghost use Rattle.registers.specs.State.{WAKIF, isNormal, isLoopback, isIdle, withControl};
+ghost use lib.ListN.{length};
+ghost use Rattle.records.specs.Records.{recordOf};
+ghost use Rattle.registers.specs.State.{isNormal, isIdle, withControl};
+ghost use Rattle.registers.specs.Errors.{isBusOff, movedTo, recLess};
 ghost use Rattle.receiving.specs.Receiving.{receivedOf};
-ghost use Rattle.registers.specs.Errors.{isBusOff};
+ghost use Rattle.image.specs.Image.{imageSize, controlOf, coreOf, Became, Acted, Answered};
 ghost use Rattle.controller.specs.Events.{
   ignored,
   wokenControl,
@@ -14,7 +14,6 @@ ghost use Rattle.controller.specs.Events.{
   goodFrame,
   heardIn,
   heardOf,
-  answered,
   delivered,
   finished,
   endsIn,
@@ -25,392 +24,360 @@ ghost use Rattle.controller.specs.Events.{
   erred,
   errorHeard,
   recovered,
-  quiet,
   happensBy,
   busyRefusal,
   endRefusal,
   recoveryRefusal,
   refusalBy,
   eventRefusal,
-  settledCore,
-  toldOf,
-  refusedBy,
   eventOf,
+  outcomeTold,
+  notAnImage,
 };
 use crate::Choice;
 use crate::End;
-use crate::Happened;
-use crate::Told;
-use crate::sending::choice_number;
 use crate::sending::choice_of;
 use crate::sending::end;
 use crate::sending::end_of;
 use crate::sending::frame_sent;
 use crate::sending::sent;
-use crate::sending::start;
-use receiving::Received;
+use image::CANINTE;
+use image::FLIGHT;
+use image::MODE;
+use image::REC;
+use image::SIZE;
 use receiving::Reception;
 use records::ACCEPTED;
+use records::Fields;
 use records::Frame;
 use records::Kind;
+use records::Outcome;
 use records::REFUSED_FIELD;
 use records::REFUSED_IN_FLIGHT;
 use records::REFUSED_NO_FLIGHT;
 use records::REFUSED_STATE;
 use registers::Control;
-use registers::Core;
 use registers::Flight;
+use registers::MERRF;
 use registers::Mode;
 use registers::TxBuffer;
+use registers::WAKIF;
 
-fn ignore(k: Core) -> Received
-    ensures { λ r. ⌜ r ≡ ignored k ⌝ }
+fn is_bus_off(image: &[u8]) -> bool
+    requires { ⌜ length (now image) ≡ imageSize ⌝ }
+    ensures { λ r. ⌜ r ≡ isBusOff (controlOf (now (image .entry)) .counters) ⌝ }
 {
-    Received {
-        core: k,
-        answer: Reception::NotListening,
+    let control = image::control_of(image);
+    let counters = control.counters;
+    registers::is_bus_off(counters)
+}
+
+fn woken(control: Control) -> Control
+    ensures { λ r. ⌜ r ≡ wokenControl control ⌝ }
+{
+    let canintf = control.flags.canintf | WAKIF;
+    let mut next = registers::enter(control, Mode::ListenOnly);
+    next.flags.canintf = canintf;
+    next
+}
+
+fn sleep(image: &mut [u8]) -> Reception
+    requires { ⌜ length (now image) ≡ imageSize ⌝ }
+    ensures { λ r. ⌜ r ≡ sleeping (coreOf (now (image .entry))) .answer ⌝ }
+    ensures { λ _. ⌜ Became (now (image .entry)) (now (image .exit)) (sleeping (coreOf (now (image .entry))) .core) ⌝ }
+{
+    if image[CANINTE] / WAKIF % 2 == 1 {
+        let control = image::control_of(image);
+        image::put_control(image, woken(control));
+        return Reception::Woke;
     }
+    Reception::NotListening
 }
 
-fn is_bus_off(k: Core) -> bool
-    ensures { λ r. ⌜ r ≡ isBusOff (k .control .counters) ⌝ }
+// A good frame: REC falls, by which no error flag rises.
+fn count_good(image: &mut [u8])
+    requires { ⌜ length (now image) ≡ imageSize ⌝ }
+    ensures { λ _. ⌜ Became (now (image .entry)) (now (image .exit)) (withControl (coreOf (now (image .entry))) (movedTo (controlOf (now (image .entry))) (recLess (controlOf (now (image .entry)) .counters)))) ⌝ }
 {
-    let c = k.control;
-    let n = c.counters;
-    registers::is_bus_off(n)
+    image[REC] = registers::heard_rec(image[REC]);
 }
 
-fn wake(c: Control) -> Control
-    ensures { λ r. ⌜ r ≡ wokenControl c ⌝ }
+fn hear_normal(image: &mut [u8], frame: Frame) -> Reception
+    requires { ⌜ length (now image) ≡ imageSize ⌝ }
+    ensures { λ r. ⌜ r ≡ heardIn Mode.Normal (coreOf (now (image .entry))) frame .answer ⌝ }
+    ensures { λ _. ⌜ Became (now (image .entry)) (now (image .exit)) (heardIn Mode.Normal (coreOf (now (image .entry))) frame .core) ⌝ }
 {
-    let f = c.flags.canintf;
-    let g = f | 64;
-    let mut d = registers::enter(c, Mode::ListenOnly);
-    d.flags.canintf = g;
-    d
-}
-
-fn wakes(k: Core) -> bool
-    ensures { λ r. ⌜ r ≡ hasBit (k .control .flags .caninte) WAKIF ⌝ }
-{
-    let c = k.control;
-    let x = c.flags.caninte;
-    x / 64 % 2 == 1
-}
-
-fn sleep(k: Core) -> Received
-    ensures { λ r. ⌜ r ≡ sleeping k ⌝ }
-{
-    let c = k.control;
-    if wakes(k) {
-        let d = registers::with_control(k, wake(c));
-        return Received {
-            core: d,
-            answer: Reception::Woke,
-        };
+    if is_bus_off(image) {
+        return Reception::NotListening;
     }
-    ignore(k)
+    let reception = receiving::receive(image, frame);
+    count_good(image);
+    reception
 }
 
-// In Normal a frame that is heard moves REC.
-fn hear_good(k: Core, f: Frame) -> Received
-    ensures { λ r. ⌜ r ≡ goodFrame k f ⌝ }
+fn hear_only(image: &mut [u8], frame: Frame) -> Reception
+    requires { ⌜ length (now image) ≡ imageSize ⌝ }
+    ensures { λ r. ⌜ r ≡ heardIn Mode.ListenOnly (coreOf (now (image .entry))) frame .answer ⌝ }
+    ensures { λ _. ⌜ Became (now (image .entry)) (now (image .exit)) (heardIn Mode.ListenOnly (coreOf (now (image .entry))) frame .core) ⌝ }
 {
-    let c = k.control;
-    let n = c.counters;
-    let got = receiving::receive(k, f);
-    let d = got.core;
-    let a = got.answer;
-    let e = d.control;
-    let after = registers::with_control(d, registers::moved(e, registers::rec_less(n)));
-    Received {
-        core: after,
-        answer: a,
+    if is_bus_off(image) {
+        return Reception::NotListening;
     }
+    receiving::receive(image, frame)
 }
 
-fn hear_normal(k: Core, f: Frame) -> Received
-    ensures { λ r. ⌜ r ≡ cond (isBusOff (k .control .counters)) (ignored k) (goodFrame k f) ⌝ }
+fn hear(image: &mut [u8], frame: Frame) -> Reception
+    requires { ⌜ length (now image) ≡ imageSize ⌝ }
+    ensures { λ r. ⌜ r ≡ heardOf (coreOf (now (image .entry))) frame .answer ⌝ }
+    ensures { λ _. ⌜ Became (now (image .entry)) (now (image .exit)) (heardOf (coreOf (now (image .entry))) frame .core) ⌝ }
 {
-    if is_bus_off(k) {
-        ignore(k)
-    } else {
-        hear_good(k, f)
-    }
-}
-
-fn hear_only(k: Core, f: Frame) -> Received
-    ensures { λ r. ⌜ r ≡ cond (isBusOff (k .control .counters)) (ignored k) (receivedOf k f) ⌝ }
-{
-    if is_bus_off(k) {
-        ignore(k)
-    } else {
-        receiving::receive(k, f)
-    }
-}
-
-fn hear_in(m: Mode, k: Core, f: Frame) -> Received
-    ensures { λ r. ⌜ r ≡ heardIn m k f ⌝ }
-{
-    match m {
-        Mode::Normal => hear_normal(k, f),
-        Mode::Sleep => sleep(k),
-        Mode::Loopback => ignore(k),
-        Mode::ListenOnly => hear_only(k, f),
-        Mode::Configuration => ignore(k),
-    }
-}
-
-fn hear(k: Core, f: Frame) -> Received
-    ensures { λ r. ⌜ r ≡ heardOf k f ⌝ }
-{
-    let c = k.control;
-    let s = c.state;
-    let m = s.mode;
-    hear_in(m, k, f)
-}
-
-fn answer(h: Received) -> Happened
-    ensures { λ r. ⌜ r ≡ answered h ⌝ }
-{
-    let d = h.core;
-    let a = h.answer;
-    Happened {
-        answer: receiving::reception_number(a),
-        core: d,
+    let mode = image::mode_of(image[MODE]);
+    match mode {
+        Mode::Normal => hear_normal(image, frame),
+        Mode::Sleep => sleep(image),
+        Mode::Loopback => Reception::NotListening,
+        Mode::ListenOnly => hear_only(image, frame),
+        Mode::Configuration => Reception::NotListening,
     }
 }
 
 // Loopback: the frame goes to the own receive rules.
-fn deliver(k: Core, b: TxBuffer) -> Happened
-    ensures { λ r. ⌜ r ≡ delivered k b ⌝ }
+fn deliver(image: &mut [u8], buffer: TxBuffer) -> u8
+    requires { ⌜ length (now image) ≡ imageSize ⌝ }
+    ensures { λ r. ⌜ r ≡ delivered (coreOf (now (image .entry))) buffer .answer ⌝ }
+    ensures { λ _. ⌜ Became (now (image .entry)) (now (image .exit)) (delivered (coreOf (now (image .entry))) buffer .core) ⌝ }
 {
-    let c = k.control;
-    let tx = k.tx;
-    let d = registers::with_control(k, sent(c, b));
-    answer(receiving::receive(d, frame_sent(tx, b)))
+    let frame = frame_sent(image, buffer);
+    let control = image::control_of(image);
+    image::put_control(image, sent(control, buffer));
+    receiving::reception_number(receiving::receive(image, frame))
 }
 
-fn finish(k: Core, b: TxBuffer, e: End) -> Happened
-    ensures { λ r. ⌜ r ≡ finished k b e ⌝ }
+fn finish(image: &mut [u8], buffer: TxBuffer, outcome: End) -> u8
+    requires { ⌜ length (now image) ≡ imageSize ⌝ }
+    ensures { λ r. ⌜ r ≡ finished (coreOf (now (image .entry))) buffer outcome .answer ⌝ }
+    ensures { λ _. ⌜ Became (now (image .entry)) (now (image .exit)) (finished (coreOf (now (image .entry))) buffer outcome .core) ⌝ }
 {
-    let c = k.control;
-    let d = registers::with_control(k, end(e, c, b));
-    Happened { answer: 0, core: d }
+    let control = image::control_of(image);
+    image::put_control(image, end(outcome, control, buffer));
+    0
 }
 
-fn finish_in(loopback: bool, k: Core, b: TxBuffer, e: End) -> Happened
-    ensures { λ r. ⌜ r ≡ endsIn loopback k b e ⌝ }
+fn finish_in(image: &mut [u8], loopback: bool, buffer: TxBuffer, outcome: End) -> u8
+    requires { ⌜ length (now image) ≡ imageSize ⌝ }
+    ensures { λ r. ⌜ r ≡ endsIn loopback (coreOf (now (image .entry))) buffer outcome .answer ⌝ }
+    ensures { λ _. ⌜ Became (now (image .entry)) (now (image .exit)) (endsIn loopback (coreOf (now (image .entry))) buffer outcome .core) ⌝ }
 {
     if loopback {
-        match e {
-            End::Sent => deliver(k, b),
-            End::LostArbitration => finish(k, b, e),
-            End::Failed => finish(k, b, e),
+        match outcome {
+            End::Sent => deliver(image, buffer),
+            End::LostArbitration => finish(image, buffer, outcome),
+            End::Failed => finish(image, buffer, outcome),
         }
     } else {
-        finish(k, b, e)
+        finish(image, buffer, outcome)
     }
 }
 
-fn is_loopback(k: Core) -> bool
-    ensures { λ r. ⌜ r ≡ isLoopback (k .control .state .mode) ⌝ }
+fn end_flight(image: &mut [u8], number: u8) -> u8
+    requires { ⌜ length (now image) ≡ imageSize ⌝ }
+    ensures { λ r. ⌜ r ≡ ended (coreOf (now (image .entry))) number .answer ⌝ }
+    ensures { λ _. ⌜ Became (now (image .entry)) (now (image .exit)) (ended (coreOf (now (image .entry))) number .core) ⌝ }
 {
-    let c = k.control;
-    let s = c.state;
-    let m = s.mode;
-    registers::is_loopback(m)
-}
-
-fn end_by(f: Flight, k: Core, e: End) -> Happened
-    ensures { λ r. ⌜ r ≡ endsBy f k e ⌝ }
-{
-    match f {
-        Flight::Idle => Happened { answer: 0, core: k },
-        Flight::Of(b) => finish_in(is_loopback(k), k, b, e),
+    let flight = image::flight_of(image[FLIGHT]);
+    let loopback = registers::is_loopback(image::mode_of(image[MODE]));
+    match flight {
+        Flight::Idle => 0,
+        Flight::Of(buffer) => finish_in(image, loopback, buffer, end_of(number)),
     }
 }
 
-fn end_flight(k: Core, n: u8) -> Happened
-    ensures { λ r. ⌜ r ≡ ended k n ⌝ }
+fn idle(image: &mut [u8]) -> u8
+    requires { ⌜ length (now image) ≡ imageSize ⌝ }
+    ensures { λ r. ⌜ r ≡ idled (coreOf (now (image .entry))) .answer ⌝ }
+    ensures { λ _. ⌜ Became (now (image .entry)) (now (image .exit)) (idled (coreOf (now (image .entry))) .core) ⌝ }
 {
-    let c = k.control;
-    let s = c.state;
-    let f = s.flight;
-    end_by(f, k, end_of(n))
+    let control = image::control_of(image);
+    let choice = choice_of(control);
+    match choice {
+        Choice::Send(buffer) => {
+            let number = registers::tx_number(buffer);
+            image[FLIGHT] = number;
+            number
+        }
+        Choice::Nobody => 3,
+    }
 }
 
-fn idle(k: Core) -> Happened
-    ensures { λ r. ⌜ r ≡ idled k ⌝ }
+fn error_adds(number: u8) -> u8
+    ensures { λ r. ⌜ r ≡ errorAdds number ⌝ }
 {
-    let c = k.control;
-    let x = choice_of(c);
-    let n = choice_number(x);
-    let d = registers::with_control(k, start(x, c));
-    Happened { answer: n, core: d }
+    if number == 0 { 1 } else { 8 }
 }
 
-fn error_adds(n: u8) -> u8
-    ensures { λ r. ⌜ r ≡ errorAdds n ⌝ }
+fn err(control: Control, by: u8) -> Control
+    ensures { λ r. ⌜ r ≡ erred control by ⌝ }
 {
-    if n == 0 { 1 } else { 8 }
+    let canintf = control.flags.canintf | MERRF;
+    let counters = control.counters;
+    let mut next = control;
+    next.flags.canintf = canintf;
+    registers::moved(next, registers::rec_more(counters, by))
 }
 
-fn err(c: Control, by: u8) -> Control
-    ensures { λ r. ⌜ r ≡ erred c by ⌝ }
+fn counts_errors(control: Control) -> bool
+    ensures { λ r. ⌜ r ≡ isNormal (control .state .mode) && not (isBusOff (control .counters)) ⌝ }
 {
-    let f = c.flags.canintf;
-    let n = c.counters;
-    let g = f | 128;
-    let mut d = c;
-    d.flags.canintf = g;
-    registers::moved(d, registers::rec_more(n, by))
+    let state = control.state;
+    let mode = state.mode;
+    let counters = control.counters;
+    registers::is_normal(mode) & !registers::is_bus_off(counters)
 }
 
-fn counts_errors(c: Control) -> bool
-    ensures { λ r. ⌜ r ≡ isNormal (c .state .mode) && not (isBusOff (c .counters)) ⌝ }
+fn error_heard(control: Control, number: u8) -> Control
+    ensures { λ r. ⌜ r ≡ errorHeard control number ⌝ }
 {
-    let s = c.state;
-    let m = s.mode;
-    let n = c.counters;
-    registers::is_normal(m) & !registers::is_bus_off(n)
-}
-
-fn hear_error(c: Control, n: u8) -> Control
-    ensures { λ r. ⌜ r ≡ errorHeard c n ⌝ }
-{
-    if counts_errors(c) {
-        err(c, error_adds(n))
+    if counts_errors(control) {
+        err(control, error_adds(number))
     } else {
-        c
+        control
     }
 }
 
-fn recover(c: Control) -> Control
-    ensures { λ r. ⌜ r ≡ recovered c ⌝ }
+fn hear_error(image: &mut [u8], number: u8) -> u8
+    requires { ⌜ length (now image) ≡ imageSize ⌝ }
+    ensures { λ r. ⌜ r ≡ 0 ⌝ }
+    ensures { λ _. ⌜ Became (now (image .entry)) (now (image .exit)) (withControl (coreOf (now (image .entry))) (errorHeard (controlOf (now (image .entry))) number)) ⌝ }
 {
-    let mut d = c;
-    d.counters = registers::counters_zero();
-    d
+    let control = image::control_of(image);
+    image::put_control(image, error_heard(control, number));
+    0
 }
 
-fn quietly(k: Core, c: Control) -> Happened
-    ensures { λ r. ⌜ r ≡ quiet k c ⌝ }
+fn with_no_errors(control: Control) -> Control
+    ensures { λ r. ⌜ r ≡ recovered control ⌝ }
 {
-    let d = registers::with_control(k, c);
-    Happened { answer: 0, core: d }
+    let mut next = control;
+    next.counters = registers::counters_zero();
+    next
+}
+
+fn recover(image: &mut [u8]) -> u8
+    requires { ⌜ length (now image) ≡ imageSize ⌝ }
+    ensures { λ r. ⌜ r ≡ 0 ⌝ }
+    ensures { λ _. ⌜ Became (now (image .entry)) (now (image .exit)) (withControl (coreOf (now (image .entry))) (recovered (controlOf (now (image .entry))))) ⌝ }
+{
+    let control = image::control_of(image);
+    image::put_control(image, with_no_errors(control));
+    0
+}
+
+fn hear_frame(image: &mut [u8], fields: Fields) -> u8
+    requires { ⌜ length (now image) ≡ imageSize ⌝ }
+    ensures { λ r. ⌜ r ≡ happensBy Kind.FrameHeard (coreOf (now (image .entry))) (recordOf fields) .answer ⌝ }
+    ensures { λ _. ⌜ Became (now (image .entry)) (now (image .exit)) (happensBy Kind.FrameHeard (coreOf (now (image .entry))) (recordOf fields) .core) ⌝ }
+{
+    receiving::reception_number(hear(image, records::frame_of(fields)))
 }
 
 // An accepted event.
-fn happen(g: Kind, k: Core, r: [u8; 16]) -> Happened
-    ensures { λ h. ⌜ h ≡ happensBy g k r ⌝ }
+fn happen(image: &mut [u8], kind: Kind, fields: Fields) -> u8
+    requires { ⌜ length (now image) ≡ imageSize ⌝ }
+    ensures { λ r. ⌜ r ≡ happensBy kind (coreOf (now (image .entry))) (recordOf fields) .answer ⌝ }
+    ensures { λ _. ⌜ Became (now (image .entry)) (now (image .exit)) (happensBy kind (coreOf (now (image .entry))) (recordOf fields) .core) ⌝ }
 {
-    let c = k.control;
-    let n = r[1];
-    match g {
-        Kind::SelectLow => Happened { answer: 0, core: k },
-        Kind::Exchange => Happened { answer: 0, core: k },
-        Kind::SelectHigh => Happened { answer: 0, core: k },
-        Kind::FrameHeard => answer(hear(k, records::frame_of(r))),
-        Kind::BusIdle => idle(k),
-        Kind::FrameEnds => end_flight(k, n),
-        Kind::ReceiveError => quietly(k, hear_error(c, n)),
-        Kind::Recovery => quietly(k, recover(c)),
-        Kind::Unknown => Happened { answer: 0, core: k },
+    match kind {
+        Kind::SelectLow => 0,
+        Kind::Exchange => 0,
+        Kind::SelectHigh => 0,
+        Kind::FrameHeard => hear_frame(image, fields),
+        Kind::BusIdle => idle(image),
+        Kind::FrameEnds => end_flight(image, fields.field),
+        Kind::ReceiveError => hear_error(image, fields.field),
+        Kind::Recovery => recover(image),
+        Kind::Unknown => 0,
     }
 }
 
-fn is_idle(c: Control) -> bool
-    ensures { λ r. ⌜ r ≡ isIdle (c .state .flight) ⌝ }
+fn is_idle(control: Control) -> bool
+    ensures { λ r. ⌜ r ≡ isIdle (control .state .flight) ⌝ }
 {
-    let s = c.state;
-    let f = s.flight;
-    registers::is_idle(f)
+    let state = control.state;
+    let flight = state.flight;
+    registers::is_idle(flight)
 }
 
-fn refuse_busy(c: Control) -> u8
-    ensures { λ r. ⌜ r ≡ busyRefusal c ⌝ }
+fn refuse_busy(control: Control) -> u8
+    ensures { λ r. ⌜ r ≡ busyRefusal control ⌝ }
 {
-    bits::choose(is_idle(c), ACCEPTED, REFUSED_IN_FLIGHT)
+    bits::choose(is_idle(control), ACCEPTED, REFUSED_IN_FLIGHT)
 }
 
-fn refuse_end(c: Control, n: u8) -> u8
-    ensures { λ r. ⌜ r ≡ endRefusal c n ⌝ }
+fn refuse_end(control: Control, number: u8) -> u8
+    ensures { λ r. ⌜ r ≡ endRefusal control number ⌝ }
 {
-    let s = c.state;
-    let m = s.mode;
-    let loopback = registers::is_loopback(m);
+    let state = control.state;
+    let mode = state.mode;
+    let loopback = registers::is_loopback(mode);
     bits::choose(
-        is_idle(c),
+        is_idle(control),
         REFUSED_NO_FLIGHT,
-        bits::choose(loopback & (n != 0), REFUSED_STATE, ACCEPTED),
+        bits::choose(loopback & (number != 0), REFUSED_STATE, ACCEPTED),
     )
 }
 
-fn refuse_recovery(c: Control) -> u8
-    ensures { λ r. ⌜ r ≡ recoveryRefusal c ⌝ }
+fn refuse_recovery(control: Control) -> u8
+    ensures { λ r. ⌜ r ≡ recoveryRefusal control ⌝ }
 {
-    let n = c.counters;
-    bits::choose(registers::is_bus_off(n), ACCEPTED, REFUSED_STATE)
+    let counters = control.counters;
+    bits::choose(registers::is_bus_off(counters), ACCEPTED, REFUSED_STATE)
 }
 
-fn refuse_by(g: Kind, c: Control, r: [u8; 16]) -> u8
-    ensures { λ x. ⌜ x ≡ refusalBy g c r ⌝ }
+fn refuse_by(kind: Kind, control: Control, fields: Fields) -> u8
+    ensures { λ r. ⌜ r ≡ refusalBy kind control (recordOf fields) ⌝ }
 {
-    match g {
+    match kind {
         Kind::SelectLow => REFUSED_FIELD,
         Kind::Exchange => REFUSED_FIELD,
         Kind::SelectHigh => REFUSED_FIELD,
-        Kind::FrameHeard => refuse_busy(c),
-        Kind::BusIdle => refuse_busy(c),
-        Kind::FrameEnds => refuse_end(c, r[1]),
-        Kind::ReceiveError => refuse_busy(c),
-        Kind::Recovery => refuse_recovery(c),
+        Kind::FrameHeard => refuse_busy(control),
+        Kind::BusIdle => refuse_busy(control),
+        Kind::FrameEnds => refuse_end(control, fields.field),
+        Kind::ReceiveError => refuse_busy(control),
+        Kind::Recovery => refuse_recovery(control),
         Kind::Unknown => REFUSED_FIELD,
     }
 }
 
-fn refuse(c: Control, r: [u8; 16]) -> u8
-    ensures { λ x. ⌜ x ≡ eventRefusal c r ⌝ }
+fn refuse(control: Control, fields: Fields) -> u8
+    ensures { λ r. ⌜ r ≡ eventRefusal control (recordOf fields) ⌝ }
 {
-    bits::choose(
-        records::is_sound(r),
-        refuse_by(records::kind_of(r), c, r),
-        REFUSED_FIELD,
-    )
-}
-
-fn settle_core(k: Core) -> Core
-    ensures { λ r. ⌜ r ≡ settledCore k ⌝ }
-{
-    let c = k.control;
-    registers::with_control(k, registers::settle(c))
-}
-
-fn tell(h: Happened) -> Told
-    ensures { λ r. ⌜ r ≡ toldOf h ⌝ }
-{
-    let d = h.core;
-    let after = settle_core(d);
-    Told {
-        refusal: ACCEPTED,
-        answer: h.answer,
-        core: after,
+    if records::is_sound(fields) {
+        refuse_by(records::kind_by(fields.kind), control, fields)
+    } else {
+        REFUSED_FIELD
     }
 }
 
 // One bus event: refused, it changes nothing.
-pub fn event(k: Core, r: [u8; 16]) -> Told
-    ensures { λ t. ⌜ t ≡ eventOf k r ⌝ }
+pub fn event(image: &mut [u8], fields: Fields) -> Outcome
+    ensures { λ r. ⌜ Answered (now (image .entry)) r (outcomeTold (eventOf (coreOf (now (image .entry))) (recordOf fields))) notAnImage ⌝ }
+    ensures { λ _. ⌜ Acted (now (image .entry)) (now (image .exit)) (eventOf (coreOf (now (image .entry))) (recordOf fields) .core) ⌝ }
 {
-    let c = k.control;
-    let n = refuse(c, r);
-    if n == 0 {
-        return tell(happen(records::kind_of(r), k, r));
+    if image.len() != SIZE {
+        return Outcome {
+            refusal: REFUSED_FIELD,
+            answer: 0,
+        };
     }
-    Told {
-        refusal: n,
-        answer: 0,
-        core: k,
+    let refusal = refuse(image::control_of(image), fields);
+    if refusal != ACCEPTED {
+        return Outcome { refusal, answer: 0 };
+    }
+    let answer = happen(image, records::kind_by(fields.kind), fields);
+    image::settle(image);
+    Outcome {
+        refusal: ACCEPTED,
+        answer,
     }
 }

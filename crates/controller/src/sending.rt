@@ -2,7 +2,8 @@
 ghost use mathlib.Core.Path.{_≡_};
 ghost use mathlib.Core.Bool.{cond, _&&_};
 ghost use Prim.Native.Nat.{_+_, _*_, _%_, _≤_, max, min};
-ghost use lib.ListN.{getD};
+ghost use lib.ListN.{length, take, drop};
+ghost use Rattle.image.specs.Image.{imageSize};
 ghost use Rattle.bits.specs.Bit.{hasBit, setBit};
 ghost use Rattle.registers.specs.State.{OSM, isNormal, txFlag, withFlight, withCanintf};
 ghost use Rattle.registers.specs.Modes.{waits};
@@ -31,18 +32,28 @@ ghost use Rattle.controller.specs.Sending.{
 use crate::Choice;
 use crate::End;
 use records::Frame;
+use registers::ABTF;
 use registers::Control;
 use registers::Counters;
 use registers::Flight;
+use registers::MLOA;
+use registers::OSM;
 use registers::State;
+use registers::TXERR;
+use registers::TXREQ;
 use registers::TxBuffer;
 use registers::TxControl;
 
-pub fn choice_number(c: Choice) -> u8
-    ensures { λ r. ⌜ r ≡ choiceNumber c ⌝ }
+// Bits of a transmit buffer's SIDL and DLC.
+const EXIDE: u8 = 8;
+
+const RTR: u8 = 64;
+
+pub fn choice_number(choice: Choice) -> u8
+    ensures { λ r. ⌜ r ≡ choiceNumber choice ⌝ }
 {
-    match c {
-        Choice::Send(b) => registers::tx_number(b),
+    match choice {
+        Choice::Send(buffer) => registers::tx_number(buffer),
         Choice::Nobody => 3,
     }
 }
@@ -50,7 +61,11 @@ pub fn choice_number(c: Choice) -> u8
 fn rank(ctrl: u8) -> u8
     ensures { λ r. ⌜ r ≡ rankOf ctrl ⌝ }
 {
-    if ctrl / 8 % 2 == 1 { 1 + ctrl % 4 } else { 0 }
+    if ctrl / TXREQ % 2 == 1 {
+        1 + ctrl % 4
+    } else {
+        0
+    }
 }
 
 fn larger(a: u8, b: u8) -> u8
@@ -74,174 +89,177 @@ fn best_by(x: u8, y: u8, z: u8) -> TxBuffer
     }
 }
 
-fn best_of(t: TxControl) -> TxBuffer
-    ensures { λ r. ⌜ r ≡ bestOf t ⌝ }
+fn best_of(tx: TxControl) -> TxBuffer
+    ensures { λ r. ⌜ r ≡ bestOf tx ⌝ }
 {
-    best_by(rank(t.txb0), rank(t.txb1), rank(t.txb2))
+    best_by(rank(tx.txb0), rank(tx.txb1), rank(tx.txb2))
 }
 
-fn may_send(c: Control) -> bool
-    ensures { λ r. ⌜ r ≡ maySend c ⌝ }
+fn may_send(control: Control) -> bool
+    ensures { λ r. ⌜ r ≡ maySend control ⌝ }
 {
-    let s = c.state;
-    let m = s.mode;
-    let n = c.counters;
-    registers::sends_in(m) & !registers::is_bus_off(n)
+    let state = control.state;
+    let mode = state.mode;
+    let counters = control.counters;
+    registers::sends_in(mode) & !registers::is_bus_off(counters)
 }
 
-fn has_turn(c: Control) -> bool
-    ensures { λ r. ⌜ r ≡ maySend c && waits (c .tx) ⌝ }
+fn has_turn(control: Control) -> bool
+    ensures { λ r. ⌜ r ≡ maySend control && waits (control .tx) ⌝ }
 {
-    let t = c.tx;
-    may_send(c) & registers::waits_in(t)
+    let tx = control.tx;
+    may_send(control) & registers::waits_in(tx)
 }
 
-pub fn choice_of(c: Control) -> Choice
-    ensures { λ r. ⌜ r ≡ choiceOf c ⌝ }
+pub fn choice_of(control: Control) -> Choice
+    ensures { λ r. ⌜ r ≡ choiceOf control ⌝ }
 {
-    let t = c.tx;
-    if has_turn(c) {
-        Choice::Send(best_of(t))
+    let tx = control.tx;
+    if has_turn(control) {
+        Choice::Send(best_of(tx))
     } else {
         Choice::Nobody
     }
 }
 
-fn with_flight(c: Control, f: Flight) -> Control
-    ensures { λ r. ⌜ r ≡ withFlight c f ⌝ }
+fn with_flight(control: Control, flight: Flight) -> Control
+    ensures { λ r. ⌜ r ≡ withFlight control flight ⌝ }
 {
-    let s = c.state;
-    let m = s.mode;
-    let q = s.request;
-    let t = State {
-        mode: m,
-        flight: f,
-        request: q,
+    let state = control.state;
+    let mode = state.mode;
+    let request = state.request;
+    let changed = State {
+        mode,
+        flight,
+        request,
     };
-    let mut d = c;
-    d.state = t;
-    d
+    let mut next = control;
+    next.state = changed;
+    next
 }
 
-pub fn start(x: Choice, c: Control) -> Control
-    ensures { λ r. ⌜ r ≡ started x c ⌝ }
+pub fn start(choice: Choice, control: Control) -> Control
+    ensures { λ r. ⌜ r ≡ started choice control ⌝ }
 {
-    match x {
-        Choice::Send(b) => with_flight(c, Flight::Of(b)),
-        Choice::Nobody => c,
+    match choice {
+        Choice::Send(buffer) => with_flight(control, Flight::Of(buffer)),
+        Choice::Nobody => control,
     }
 }
 
-pub fn end_of(n: u8) -> End
-    ensures { λ r. ⌜ r ≡ endOf n ⌝ }
+pub fn end_of(number: u8) -> End
+    ensures { λ r. ⌜ r ≡ endOf number ⌝ }
 {
-    if n == 0 {
+    if number == 0 {
         End::Sent
-    } else if n == 1 {
+    } else if number == 1 {
         End::LostArbitration
     } else {
         End::Failed
     }
 }
 
-fn is_normal(c: Control) -> bool
-    ensures { λ r. ⌜ r ≡ isNormal (c .state .mode) ⌝ }
+fn is_normal(control: Control) -> bool
+    ensures { λ r. ⌜ r ≡ isNormal (control .state .mode) ⌝ }
 {
-    let s = c.state;
-    let m = s.mode;
-    registers::is_normal(m)
+    let state = control.state;
+    let mode = state.mode;
+    registers::is_normal(mode)
 }
 
 // The counters move in Normal alone.
-fn count(c: Control, n: Counters) -> Control
-    ensures { λ r. ⌜ r ≡ counted c n ⌝ }
+fn count(control: Control, counters: Counters) -> Control
+    ensures { λ r. ⌜ r ≡ counted control counters ⌝ }
 {
-    if is_normal(c) {
-        registers::moved(c, n)
+    if is_normal(control) {
+        registers::moved(control, counters)
     } else {
-        c
+        control
     }
 }
 
-fn is_one_shot(c: Control) -> bool
-    ensures { λ r. ⌜ r ≡ hasBit (c .flags .canctrl) OSM ⌝ }
+fn is_one_shot(control: Control) -> bool
+    ensures { λ r. ⌜ r ≡ hasBit (control .flags .canctrl) OSM ⌝ }
 {
-    let x = c.flags.canctrl;
-    x / 8 % 2 == 1
+    let canctrl = control.flags.canctrl;
+    canctrl / OSM % 2 == 1
 }
 
 // TXBnCTRL after a failed attempt.
-fn after_failure(c: Control, ctrl: u8) -> u8
-    ensures { λ r. ⌜ r ≡ afterFailure c ctrl ⌝ }
+fn after_failure(control: Control, ctrl: u8) -> u8
+    ensures { λ r. ⌜ r ≡ afterFailure control ctrl ⌝ }
 {
     bits::choose(
-        registers::aborts_all(c),
-        (ctrl & 247) | 64,
-        bits::choose(is_one_shot(c), ctrl & 247, ctrl),
+        registers::aborts_all(control),
+        (ctrl & !TXREQ) | ABTF,
+        bits::choose(is_one_shot(control), ctrl & !TXREQ, ctrl),
     )
 }
 
 // TXBnCTRL of the buffer that was in flight; nothing is in flight any more.
-fn with_ctrl(c: Control, b: TxBuffer, v: u8) -> Control
-    ensures { λ r. ⌜ r ≡ withCtrl c b v ⌝ }
+fn with_ctrl(control: Control, buffer: TxBuffer, value: u8) -> Control
+    ensures { λ r. ⌜ r ≡ withCtrl control buffer value ⌝ }
 {
-    let t = c.tx;
-    let mut d = c;
-    d.tx = registers::with_tx_control(t, b, v);
-    with_flight(d, Flight::Idle)
+    let tx = control.tx;
+    let mut next = control;
+    next.tx = registers::with_tx_control(tx, buffer, value);
+    with_flight(next, Flight::Idle)
 }
 
-fn with_flag(c: Control, k: u8) -> Control
-    ensures { λ r. ⌜ r ≡ withCanintf c (setBit (c .flags .canintf) k) ⌝ }
+fn with_flag(control: Control, bit: u8) -> Control
+    ensures { λ r. ⌜ r ≡ withCanintf control (setBit (control .flags .canintf) bit) ⌝ }
 {
-    let f = bits::set(c.flags.canintf, k);
-    let mut d = c;
-    d.flags.canintf = f;
-    d
+    let canintf = bits::set(control.flags.canintf, bit);
+    let mut next = control;
+    next.flags.canintf = canintf;
+    next
 }
 
-fn tx_flag(b: TxBuffer) -> u8
-    ensures { λ r. ⌜ r ≡ txFlag b ⌝ }
+fn tx_flag(buffer: TxBuffer) -> u8
+    ensures { λ r. ⌜ r ≡ txFlag buffer ⌝ }
 {
-    match b {
+    match buffer {
         TxBuffer::Txb0 => 2,
         TxBuffer::Txb1 => 3,
         TxBuffer::Txb2 => 4,
     }
 }
 
-pub fn sent(c: Control, b: TxBuffer) -> Control
-    ensures { λ r. ⌜ r ≡ sentBy c b ⌝ }
+pub fn sent(control: Control, buffer: TxBuffer) -> Control
+    ensures { λ r. ⌜ r ≡ sentBy control buffer ⌝ }
 {
-    let t = c.tx;
-    let ctrl = registers::tx_control(t, b);
-    with_flag(with_ctrl(c, b, ctrl & 247), tx_flag(b))
+    let tx = control.tx;
+    let ctrl = registers::tx_control(tx, buffer);
+    with_flag(with_ctrl(control, buffer, ctrl & !TXREQ), tx_flag(buffer))
 }
 
-fn lost(c: Control, b: TxBuffer) -> Control
-    ensures { λ r. ⌜ r ≡ lostBy c b ⌝ }
+fn lost(control: Control, buffer: TxBuffer) -> Control
+    ensures { λ r. ⌜ r ≡ lostBy control buffer ⌝ }
 {
-    let t = c.tx;
-    let ctrl = registers::tx_control(t, b);
-    with_ctrl(c, b, after_failure(c, ctrl | 32))
+    let tx = control.tx;
+    let ctrl = registers::tx_control(tx, buffer);
+    with_ctrl(control, buffer, after_failure(control, ctrl | MLOA))
 }
 
-fn failed(c: Control, b: TxBuffer) -> Control
-    ensures { λ r. ⌜ r ≡ failedBy c b ⌝ }
+fn failed(control: Control, buffer: TxBuffer) -> Control
+    ensures { λ r. ⌜ r ≡ failedBy control buffer ⌝ }
 {
-    let t = c.tx;
-    let ctrl = registers::tx_control(t, b);
-    with_flag(with_ctrl(c, b, after_failure(c, ctrl | 16)), 7)
+    let tx = control.tx;
+    let ctrl = registers::tx_control(tx, buffer);
+    with_flag(
+        with_ctrl(control, buffer, after_failure(control, ctrl | TXERR)),
+        7,
+    )
 }
 
-pub fn end(e: End, c: Control, b: TxBuffer) -> Control
-    ensures { λ r. ⌜ r ≡ endedBy e c b ⌝ }
+pub fn end(end: End, control: Control, buffer: TxBuffer) -> Control
+    ensures { λ r. ⌜ r ≡ endedBy end control buffer ⌝ }
 {
-    let n = c.counters;
-    match e {
-        End::Sent => count(sent(c, b), registers::tec_less(n)),
-        End::LostArbitration => lost(c, b),
-        End::Failed => count(failed(c, b), registers::tec_more(n)),
+    let counters = control.counters;
+    match end {
+        End::Sent => count(sent(control, buffer), registers::tec_less(counters)),
+        End::LostArbitration => lost(control, buffer),
+        End::Failed => count(failed(control, buffer), registers::tec_more(counters)),
     }
 }
 
@@ -265,40 +283,41 @@ fn identifier_sent(extended: bool, sidh: u8, sidl: u8, eid8: u8, eid0: u8) -> u3
     }
 }
 
-// The message in the buffer whose bytes start at `at`.
-fn frame_at(tx: [u8; 48], at: usize) -> Frame
-    requires { ⌜ at ≤ 32 ⌝ }
-    ensures { λ r. ⌜ r ≡ frameAt tx at ⌝ }
+// The message in the buffer whose bytes start at `at` of the image.
+fn frame_at(image: &[u8], at: usize) -> Frame
+    requires { ⌜ (length (now image) ≡ imageSize) × (at ≤ 80) ⌝ }
+    ensures { λ r. ⌜ r ≡ frameAt (now (image .entry)) at ⌝ }
 {
-    let sidl = tx[at + 2];
-    let dlc = tx[at + 5];
-    let extended = sidl / 8 % 2 == 1;
+    let sidl = image[at + 2];
+    let dlc = image[at + 5];
+    let extended = sidl / EXIDE % 2 == 1;
     let bytes = [
-        tx[at + 6],
-        tx[at + 7],
-        tx[at + 8],
-        tx[at + 9],
-        tx[at + 10],
-        tx[at + 11],
-        tx[at + 12],
-        tx[at + 13],
+        image[at + 6],
+        image[at + 7],
+        image[at + 8],
+        image[at + 9],
+        image[at + 10],
+        image[at + 11],
+        image[at + 12],
+        image[at + 13],
     ];
     Frame {
-        extended: extended,
-        remote: dlc / 64 % 2 == 1,
+        extended,
+        remote: dlc / RTR % 2 == 1,
         length: length_sent(dlc % 16),
-        identifier: identifier_sent(extended, tx[at + 1], sidl, tx[at + 3], tx[at + 4]),
-        bytes: bytes,
+        identifier: identifier_sent(extended, image[at + 1], sidl, image[at + 3], image[at + 4]),
+        bytes,
     }
 }
 
 // The frame that a buffer sends.
-pub fn frame_sent(tx: [u8; 48], b: TxBuffer) -> Frame
-    ensures { λ r. ⌜ r ≡ frameSent tx b ⌝ }
+pub fn frame_sent(image: &[u8], buffer: TxBuffer) -> Frame
+    requires { ⌜ length (now image) ≡ imageSize ⌝ }
+    ensures { λ r. ⌜ r ≡ frameSent (take 48 (drop 48 (now (image .entry)))) buffer ⌝ }
 {
-    match b {
-        TxBuffer::Txb0 => frame_at(tx, 0),
-        TxBuffer::Txb1 => frame_at(tx, 16),
-        TxBuffer::Txb2 => frame_at(tx, 32),
+    match buffer {
+        TxBuffer::Txb0 => frame_at(image, 48),
+        TxBuffer::Txb1 => frame_at(image, 64),
+        TxBuffer::Txb2 => frame_at(image, 80),
     }
 }

@@ -70,15 +70,14 @@ fn put_records(chip: Chip, number: u32, part: &[u8], count: usize, out: &mut [u8
     requires { ⌜ (count * recordSize ≤ length (now part)) × (count * lineRoom ≤ length (now out)) × (number + count < 2 ^ 32) ⌝ }
     ensures { λ r. ⌜ Lined chip number count (now (part .entry)) (now (out .entry)) (now (out .exit)) r ⌝ }
 {
-    let mut held = chip;
+    let mut image = mcp2515::pack(chip);
     let mut left = count;
     let mut at = 0;
     let mut len = 0;
     let mut n = number;
     while left > 0 {
-        let stepped = mcp2515::step(held, bus_log::record_at(part, at));
-        len = put_line(out, len, n as u64 + 1, stepped.refusal, stepped.answer);
-        held = stepped.chip;
+        let told = mcp2515::step_in_place(&mut image, bus_log::fields_at(part, at));
+        len = put_line(out, len, n as u64 + 1, told.refusal, told.answer);
         n += 1;
         at += RECORD_SIZE;
         left -= 1;
@@ -87,7 +86,7 @@ fn put_records(chip: Chip, number: u32, part: &[u8], count: usize, out: &mut [u8
         refusal: 0,
         len,
         number: n,
-        chip: held,
+        chip: mcp2515::unpack(image),
     }
 }
 

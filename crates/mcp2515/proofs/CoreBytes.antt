@@ -24,15 +24,12 @@ use Rattle.registers.specs.Errors.{isBusOff}
 use Rattle.registers.specs.Registers.{writableOf}
 use Rattle.stores.specs.Store.{stored}
 use Rattle.registers.specs.State.{updated}
-use Rattle.receiving.specs.declared.Received.{Received}
 use Rattle.receiving.specs.declared.Reception.the-variants.{Woke}
-use Rattle.receiving.specs.Receiving.{receivedOf}
-use Rattle.controller.specs.declared.Happened.{Happened}
-use Rattle.controller.specs.declared.Told.{Told}
+use Rattle.receiving.specs.Receiving.{Received, receivedOf}
 use Rattle.controller.specs.declared.End.{End}
 use Rattle.controller.specs.declared.End.the-variants.{Sent, LostArbitration, Failed}
 use Rattle.controller.specs.Sending.{endOf, sentBy, frameAt, frameSent}
-use Rattle.controller.specs.Events.{ignored, goodFrame, wokenControl, answered, heardIn, heardOf, endsIn, endsBy, ended, idled, happensBy, eventRefusal, toldOf, refusedBy, eventOf}
+use Rattle.controller.specs.Events.{Happened, Told, ignored, goodFrame, wokenControl, answered, heardIn, heardOf, endsIn, endsBy, ended, idled, happensBy, eventRefusal, toldOf, refusedBy, eventOf}
 use Rattle.spi.specs.declared.Act.the-variants.{Store}
 use Rattle.spi.specs.Instructions.{acted}
 use Rattle.mcp2515.specs.Moments.{isFree}

@@ -38,14 +38,12 @@ use Rattle.receiving.specs.declared.Hit.{Hit}
 use Rattle.receiving.specs.declared.Hit.the-variants.{Filter, Miss}
 use Rattle.receiving.specs.declared.Verdict.{Verdict}
 use Rattle.receiving.specs.declared.Verdict.the-variants.{Unmatched, Stored0, Stored1, RolledOver, Lost0, Lost1}
-use Rattle.receiving.specs.Receiving.{keyOf, hitFor, isFull, verdictBy, verdictOf, controlAfter, filled, headed, bytesStored, bytesAfter, receivedOf}
-use Rattle.receiving.specs.declared.Received.{Received}
-use Rattle.controller.specs.declared.Told.{Told}
+use Rattle.receiving.specs.Receiving.{Received, keyOf, hitFor, isFull, verdictBy, verdictOf, controlAfter, filled, headed, bytesStored, bytesAfter, receivedOf}
 use Rattle.controller.specs.declared.Choice.the-variants.{Send, Nobody}
 use Rattle.controller.specs.declared.End.{End}
 use Rattle.controller.specs.declared.End.the-variants.{Sent, LostArbitration, Failed}
 use Rattle.controller.specs.Sending.{rankOf, bestOf, choiceOf, endOf, started, maySend, afterFailure, counted, withCtrl, sentBy, lostBy, failedBy, endedBy, frameSent}
-use Rattle.controller.specs.Events.{wokenControl, heardIn, heardOf, endsIn, endsBy, ended, idled, errorAdds, errorHeard, recovered, happensBy, eventRefusal, eventOf}
+use Rattle.controller.specs.Events.{Told, wokenControl, heardIn, heardOf, endsIn, endsBy, ended, idled, errorAdds, errorHeard, recovered, happensBy, eventRefusal, eventOf}
 use Rattle.spi.proofs.Parts.{clash}
 use Rattle.mcp2515.proofs.CoreFacts.{RxByte}
 

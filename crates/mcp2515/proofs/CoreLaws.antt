@@ -9,8 +9,7 @@ use Rattle.registers.specs.declared.TxBuffer.{TxBuffer}
 use Rattle.registers.specs.declared.Core.{Core}
 use Rattle.registers.specs.State.{withTxBytes}
 use Rattle.registers.specs.Registers.{reads}
-use Rattle.controller.specs.declared.Told.{Told}
-use Rattle.controller.specs.Events.{eventOf}
+use Rattle.controller.specs.Events.{Told, eventOf}
 use Rattle.spi.specs.declared.Act.the-variants.{Store}
 use Rattle.spi.specs.Instructions.{acted}
 use Rattle.receiving.specs.Receiving.{isFull}

@@ -17,10 +17,11 @@ use Rattle.registers.specs.declared.Flags.{Flags}
 use Rattle.registers.specs.declared.Mode.the-variants.{Normal}
 use Rattle.registers.specs.declared.Flight.the-variants.{Idle}
 use Rattle.registers.specs.declared.Request.the-variants.{Nothing}
-use Rattle.mcp2515.specs.declared.Select.the-variants.{Raised}
+use Rattle.spi.specs.declared.Select.the-variants.{Raised}
 use Rattle.mcp2515.specs.declared.Chip.{Chip}
 use Rattle.spi.specs.Instructions.{bufferCommand, commandOf}
-use Rattle.mcp2515.specs.Step.{powerOn, asked, turned, stepOf, Outcome, chipAfter, outcomes}
+use Rattle.records.specs.declared.Outcome.{Outcome}
+use Rattle.mcp2515.specs.Step.{powerOn, asked, turned, stepOf, chipAfter, outcomes}
 use Rattle.mcp2515.specs.Moments.{roleOf, trace, listed, events, others, bytes, before, after, placed, session, tidyFrom, tidy, records, outs}
 
 -- ---- records

@@ -5,6 +5,8 @@ pub mod CoreRegions
 pub mod CoreBytes
 pub mod CoreLaws
 pub mod Plain
+pub mod Sides
+pub mod Images
 pub mod Refused
 pub mod Swap
 pub mod Session

@@ -8,9 +8,8 @@ use Rattle.records.specs.declared.Kind.the-variants.{SelectLow, Exchange, Selec
 use Rattle.records.specs.Records.{refusedField, byteAt, kindOf, soundPlain, soundBy, soundOf}
 use Rattle.spi.specs.declared.Act.{Act}
 use Rattle.spi.specs.declared.Act.the-variants.{Refuse}
-use Rattle.mcp2515.specs.declared.Select.{Select}
-use Rattle.mcp2515.specs.declared.Move.{Move}
-use Rattle.mcp2515.specs.Step.{askedBy, asked, turnedBy, turned, moveBy, moveOf, refusedMove}
+use Rattle.spi.specs.declared.Select.{Select}
+use Rattle.mcp2515.specs.Step.{askedBy, asked, turnedBy, turned}
 
 either : {A : Type 0} (x y : Bool) (a : A) → cond x a a ≡ cond y a a
 either true true a = refl
@@ -41,18 +40,10 @@ turned-by ReceiveError s r b = refl
 turned-by Recovery s r b = refl
 turned-by Unknown s r b = either (soundPlain Unknown r) false s
 
-asked-plain : (s : Select) (r : List ℕ) → cond (soundPlain (kindOf r) r) (askedBy (kindOf r) s (byteAt r 1)) (Refuse refusedField) ≡ asked s r
+pub asked-plain : (s : Select) (r : List ℕ) → cond (soundPlain (kindOf r) r) (askedBy (kindOf r) s (byteAt r 1)) (Refuse refusedField) ≡ asked s r
 unfolding asked soundOf
 asked-plain s r = asked-by (kindOf r) s r (byteAt r 1)
 
-turned-plain : (s : Select) (r : List ℕ) → cond (soundPlain (kindOf r) r) (turnedBy (kindOf r) s (byteAt r 1)) s ≡ turned s r
+pub turned-plain : (s : Select) (r : List ℕ) → cond (soundPlain (kindOf r) r) (turnedBy (kindOf r) s (byteAt r 1)) s ≡ turned s r
 unfolding turned soundOf
 turned-plain s r = turned-by (kindOf r) s r (byteAt r 1)
-
-split : (b : Bool) (g : Kind) (s : Select) (n : ℕ)
-    → cond b (moveBy g s n) (refusedMove s refusedField) ≡ record { act = cond b (askedBy g s n) (Refuse refusedField); select = cond b (turnedBy g s n) s }
-split true g s n = refl
-split false g s n = refl
-
-pub move-plain : (s : Select) (r : List ℕ) → cond (soundPlain (kindOf r) r) (moveBy (kindOf r) s (byteAt r 1)) (refusedMove s refusedField) ≡ moveOf s r
-move-plain s r = rw (asked-plain s r, turned-plain s r) at (split (soundPlain (kindOf r) r) (kindOf r) s (byteAt r 1))

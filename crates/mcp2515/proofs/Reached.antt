@@ -33,15 +33,13 @@ use Rattle.registers.specs.Modes.{sendsIn, waits, entered, freeToChange, settle
 use Rattle.stores.specs.Store.{storedIn, stored, modified, aborted, canctrlHeld, canctrlStored, requestedToSend}
 use Rattle.receiving.specs.declared.Verdict.{Verdict}
 use Rattle.receiving.specs.declared.Verdict.the-variants.{Unmatched, Stored0, Stored1, RolledOver, Lost0, Lost1}
-use Rattle.receiving.specs.declared.Received.{Received}
 use Rattle.receiving.specs.declared.Reception.the-variants.{Woke}
-use Rattle.receiving.specs.Receiving.{verdictOf, controlAfter, receivedOf}
-use Rattle.controller.specs.declared.Told.{Told}
+use Rattle.receiving.specs.Receiving.{Received, verdictOf, controlAfter, receivedOf}
 use Rattle.controller.specs.declared.End.{End}
 use Rattle.controller.specs.declared.End.the-variants.{Sent, LostArbitration, Failed}
 use Rattle.controller.specs.declared.Choice.the-variants.{Send, Nobody}
 use Rattle.controller.specs.Sending.{maySend, bestOf, choiceOf, started, endOf, counted, sentBy, lostBy, failedBy, endedBy, frameSent}
-use Rattle.controller.specs.Events.{settledCore, ignored, goodFrame, wokenControl, heardIn, heardOf, endsIn, endsBy, ended, idled, errorAdds, erred, errorHeard, happensBy, eventRefusal, toldOf, refusedBy, eventOf}
+use Rattle.controller.specs.Events.{Told, settledCore, ignored, goodFrame, wokenControl, heardIn, heardOf, endsIn, endsBy, ended, idled, errorAdds, erred, errorHeard, happensBy, eventRefusal, toldOf, refusedBy, eventOf}
 use Rattle.spi.specs.declared.Act.{Act}
 use Rattle.spi.specs.declared.Act.the-variants.{Rest, ResetAll, Fetch, Store, Modify, RequestToSend, ClearFlag, FetchStatus, FetchRxStatus, Refuse}
 use Rattle.mcp2515.specs.declared.Chip.{Chip}

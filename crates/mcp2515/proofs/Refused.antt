@@ -16,8 +16,8 @@ use Rattle.spi.specs.declared.Instruction.the-variants.{First, ReadAddress, Rea
 use Rattle.spi.specs.declared.Act.{Act}
 use Rattle.spi.specs.Instructions.{commandOf, firstAct, exchangeAct, highAct, replyTo, acted, refusalOf}
 use Rattle.mcp2515.specs.declared.Chip.{Chip}
-use Rattle.mcp2515.specs.declared.Select.{Select}
-use Rattle.mcp2515.specs.declared.Select.the-variants.{Raised, Lowered}
+use Rattle.spi.specs.declared.Select.{Select}
+use Rattle.spi.specs.declared.Select.the-variants.{Raised, Lowered}
 use Rattle.mcp2515.specs.Step.{askedBy, asked, turnedBy, turned, stepOf}
 
 first-accepted : (m : Command) → refusalOf (firstAct m) ≡ 0

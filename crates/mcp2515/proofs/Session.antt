@@ -19,14 +19,15 @@ use Rattle.spi.specs.declared.Command.the-variants.{Reset, Read, Write, BitModi
 use Rattle.spi.specs.declared.Instruction.{Instruction}
 use Rattle.spi.specs.declared.Instruction.the-variants.{First, ReadAddress, Reading, WriteAddress, Writing, ModifyAddress, ModifyMask, ModifyData, ReadingBuffer, StatusReply, RxStatusReply, Done}
 use Rattle.receiving.specs.Receiving.{isFull}
-use Rattle.mcp2515.specs.declared.Select.{Select}
-use Rattle.mcp2515.specs.declared.Select.the-variants.{Raised, Lowered}
+use Rattle.spi.specs.declared.Select.{Select}
+use Rattle.spi.specs.declared.Select.the-variants.{Raised, Lowered}
 use Rattle.spi.specs.declared.Act.{Act}
 use Rattle.spi.specs.declared.Act.the-variants.{Rest, ResetAll, Fetch, Store, Modify, RequestToSend, ClearFlag, FetchStatus, FetchRxStatus, Refuse}
 use Rattle.mcp2515.specs.declared.Chip.{Chip}
 use Rattle.spi.specs.Instructions.{bufferCommand, commandOf, firstAct, opened, rising, exchangeAct, exchangeNext, highAct, replyTo, acted, refusalOf}
 use Rattle.mcp2515.specs.declared.Stepped.{Stepped}
-use Rattle.mcp2515.specs.Step.{powerOn, askedBy, asked, turnedBy, turned, spiStep, eventStep, stepOf, Outcome, nextChip, outcome}
+use Rattle.records.specs.declared.Outcome.{Outcome}
+use Rattle.mcp2515.specs.Step.{powerOn, askedBy, asked, turnedBy, turned, spiStep, eventStep, stepOf, nextChip, outcome}
 use Rattle.mcp2515.specs.Moments.{Role, event, low, exchange, high, other, acceptedRole, roleOf, bytesFrom, most, momentOf, isFree, allowed, Demand3For}
 use Rattle.mcp2515.proofs.CoreFacts.{Good, rxBase, txBase, RxByte, TxByte, CoreFacts}
 use Rattle.mcp2515.proofs.Refused.{exchange-accepted, high-accepted}

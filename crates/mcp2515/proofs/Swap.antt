@@ -14,7 +14,8 @@ use Rattle.records.specs.Records.{byteAt, kindOf, isEvent}
 use Rattle.spi.specs.declared.Command.{Command}
 use Rattle.mcp2515.specs.declared.Chip.{Chip}
 use Rattle.spi.specs.Instructions.{commandOf}
-use Rattle.mcp2515.specs.Step.{powerOn, Outcome, nextChip, outcome, chipAfter, outcomes}
+use Rattle.records.specs.declared.Outcome.{Outcome}
+use Rattle.mcp2515.specs.Step.{powerOn, nextChip, outcome, chipAfter, outcomes}
 use Rattle.mcp2515.specs.Moments.{Role, event, low, exchange, high, other, acceptedRole, roleOf, isEventRole, isLow, isHigh, Entry, roleIn, trace, most, momentOf, allowed, listed, events, others, bytes, before, after, placed, session, outside, inside, tidyFrom, tidy, records, outs, Demand3For}
 
 -- How far a session has come: no exchange yet, or j exchanges behind the first, which named this command.

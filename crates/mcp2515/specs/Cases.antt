@@ -5,7 +5,8 @@ use mathlib.Core.List.{List, [], _∷_, _++_}
 use lib.Dec.{eqb, T}
 use lib.ListN.{replicate}
 use Rattle.registers.specs.Registers.{holds}
-use Rattle.mcp2515.specs.Step.{powerOn, Outcome, chipAfter, outcomes}
+use Rattle.records.specs.declared.Outcome.{Outcome}
+use Rattle.mcp2515.specs.Step.{powerOn, chipAfter, outcomes}
 
 -- ---- records
 abbrev pub padded : ℕ → ℕ → List ℕ

@@ -3,3 +3,4 @@ pub mod Moments
 pub mod Runs
 pub mod Promise
 pub mod Cases
+pub mod ChipImage

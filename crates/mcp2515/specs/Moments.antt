@@ -18,7 +18,8 @@ use Rattle.spi.specs.declared.Command.{Command}
 use Rattle.spi.specs.declared.Command.the-variants.{Reset, Read, Write, BitModify, ReadRxBuffer, LoadTxBuffer, Rts, ReadStatus, RxStatus, UnknownCode}
 use Rattle.mcp2515.specs.declared.Chip.{Chip}
 use Rattle.spi.specs.Instructions.{commandOf}
-use Rattle.mcp2515.specs.Step.{powerOn, Outcome, nextChip, outcome, chipAfter, outcomes}
+use Rattle.records.specs.declared.Outcome.{Outcome}
+use Rattle.mcp2515.specs.Step.{powerOn, nextChip, outcome, chipAfter, outcomes}
 
 -- ---- what a record is in a run
 -- an event (kinds 3 to 7, accepted or not); a select low, a select high or an exchange, if accepted; any other record is refused

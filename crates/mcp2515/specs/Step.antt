@@ -4,19 +4,19 @@ use mathlib.Core.Bool.{cond}
 use mathlib.Core.List.{List, [], _∷_}
 use Rattle.records.specs.declared.Kind.{Kind}
 use Rattle.records.specs.declared.Kind.the-variants.{SelectLow, Exchange, SelectHigh, FrameHeard, BusIdle, FrameEnds, ReceiveError, Recovery, Unknown}
+use Rattle.records.specs.declared.Outcome.{Outcome}
 use Rattle.records.specs.Records.{refusedSelect, refusedField, byteAt, kindOf, isEvent, soundOf}
 use Rattle.registers.specs.declared.Core.{Core}
 use Rattle.registers.specs.Registers.{powerOnCore}
 use Rattle.controller.specs.Events.{eventOf}
 use Rattle.spi.specs.declared.Instruction.{Instruction}
 use Rattle.spi.specs.declared.Instruction.the-variants.{First}
-use Rattle.mcp2515.specs.declared.Select.{Select}
-use Rattle.mcp2515.specs.declared.Select.the-variants.{Raised, Lowered}
+use Rattle.spi.specs.declared.Select.{Select}
+use Rattle.spi.specs.declared.Select.the-variants.{Raised, Lowered}
 use Rattle.spi.specs.declared.Act.{Act}
 use Rattle.spi.specs.declared.Act.the-variants.{Rest, Refuse}
 use Rattle.mcp2515.specs.declared.Chip.{Chip}
 use Rattle.mcp2515.specs.declared.Stepped.{Stepped}
-use Rattle.mcp2515.specs.declared.Move.{Move}
 use Rattle.spi.specs.Instructions.{exchangeAct, exchangeNext, highAct, replyTo, acted, refusalOf}
 
 -- at power-on the select is high
@@ -59,16 +59,6 @@ turnedBy Unknown s b = s
 unfoldable pub turned : Select → List ℕ → Select
 turned s r = cond (soundOf r) (turnedBy (kindOf r) s (byteAt r 1)) s
 
--- a record's move: what it asks of the core, and the select after it
-abbrev pub moveBy : Kind → Select → ℕ → Move
-moveBy g s b = record { act = askedBy g s b; select = turnedBy g s b }
-
-abbrev pub moveOf : Select → List ℕ → Move
-moveOf s r = record { act = asked s r; select = turned s r }
-
-abbrev pub refusedMove : Select → ℕ → Move
-refusedMove s n = record { act = Refuse n; select = s }
-
 abbrev pub spiStep : Chip → List ℕ → Stepped
 spiStep c r =
     record {
@@ -90,10 +80,6 @@ unfoldable pub stepOf : Chip → List ℕ → Stepped
 stepOf c r = cond (isEvent (kindOf r)) (eventStep c r) (spiStep c r)
 
 -- ---- the run of a list: the chip is handed on from step to step
-pub record Outcome : Type 0 where
-  pub refusal : ℕ
-  pub answer : ℕ
-
 abbrev pub nextChip : Chip → List ℕ → Chip
 nextChip c r = stepOf c r .chip
 

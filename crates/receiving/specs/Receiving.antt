@@ -23,7 +23,6 @@ use Rattle.receiving.specs.declared.Verdict.{Verdict}
 use Rattle.receiving.specs.declared.Verdict.the-variants.{Unmatched, Stored0, Stored1, RolledOver, Lost0, Lost1}
 use Rattle.receiving.specs.declared.Reception.{Reception}
 use Rattle.receiving.specs.declared.Reception.the-variants.{NoMatch, InRxb0, InRxb1, Lost, NotListening, Woke}
-use Rattle.receiving.specs.declared.Received.{Received}
 
 -- The answers of kind 3 by number.
 abbrev pub receptionNumber : Reception → ℕ
@@ -197,7 +196,11 @@ bytesAfter (RolledOver h) rx f = bytesStored rx 16 f
 bytesAfter Lost0 rx f = rx
 bytesAfter Lost1 rx f = rx
 
--- ---- the receive rules whole
+-- ---- the receive rules whole: the core after them, and the answer
+pub record Received : Type 0 where
+  pub core : Core
+  pub answer : Reception
+
 abbrev pub receivedBy : Verdict → Core → Frame → Received
 receivedBy v k f =
     record {

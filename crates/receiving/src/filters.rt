@@ -1,7 +1,9 @@
 // The look over a buffer's filters.
 ghost use mathlib.Core.Path.{_≡_};
 ghost use Prim.Native.Nat.{_-_, _<_, _≤_};
+ghost use lib.ListN.{length, take};
 ghost use Rattle.registers.specs.Registers.{rxControl};
+ghost use Rattle.image.specs.Image.{imageSize, controlOf};
 ghost use Rattle.receiving.specs.Receiving.{
   sameAs,
   maskAt,
@@ -13,8 +15,12 @@ ghost use Rattle.receiving.specs.Receiving.{
 };
 use crate::Hit;
 use crate::Key;
-use registers::Control;
+use image::RXB0CTRL;
+use image::RXB1CTRL;
 use registers::RxBuffer;
+
+// IDE of SIDL: the filter is for extended frames.
+const EXIDE: u8 = 8;
 
 fn same_as(x: bool, y: bool) -> bool
     ensures { λ r. ⌜ r ≡ sameAs x y ⌝ }
@@ -22,67 +28,77 @@ fn same_as(x: bool, y: bool) -> bool
     if x { y } else { !y }
 }
 
-fn mask_at(n: u8) -> usize
-    ensures { λ r. ⌜ (r ≡ maskAt n) × (r ≤ 36) ⌝ }
+fn mask_at(filter: u8) -> usize
+    ensures { λ r. ⌜ (r ≡ maskAt filter) × (r ≤ 36) ⌝ }
 {
-    if n < 2 { 32 } else { 36 }
+    if filter < 2 { 32 } else { 36 }
 }
 
-fn is_match(config: [u8; 48], q: Key, n: u8) -> bool
-    requires { ⌜ n < 6 ⌝ }
-    ensures { λ r. ⌜ r ≡ matches config q n ⌝ }
+fn is_match(image: &[u8], key: Key, filter: u8) -> bool
+    requires { ⌜ (length (now image) ≡ imageSize) × (filter < 6) ⌝ }
+    ensures { λ r. ⌜ r ≡ matches (now (image .entry)) key filter ⌝ }
 {
-    let at = (n / 3 * 16 + n % 3 * 4) as usize;
-    let m = mask_at(n);
-    let sidl = config[at + 1];
-    let ide = same_as(q.extended, sidl / 8 % 2 == 1);
-    let a = bits::agree(config[m], config[at], q.sidh);
-    let b = bits::agree(config[m + 1] & q.reach1, sidl, q.sidl);
-    let c = bits::agree(config[m + 2] & q.reach2, config[at + 2], q.eid8);
-    let d = bits::agree(config[m + 3] & q.reach3, config[at + 3], q.eid0);
+    let at = (filter / 3 * 16 + filter % 3 * 4) as usize;
+    let mask = mask_at(filter);
+    let sidl = image[at + 1];
+    let ide = same_as(key.extended, sidl / EXIDE % 2 == 1);
+    let a = bits::agree(image[mask], image[at], key.sidh);
+    let b = bits::agree(image[mask + 1] & key.reach1, sidl, key.sidl);
+    let c = bits::agree(image[mask + 2] & key.reach2, image[at + 2], key.eid8);
+    let d = bits::agree(image[mask + 3] & key.reach3, image[at + 3], key.eid0);
     ide & a & b & c & d
 }
 
 // The look over filters first to end - 1: the first that matches is the answer.
-fn lowest(config: [u8; 48], q: Key, first: u8, end: u8) -> Hit
-    requires { ⌜ (first ≤ end) × (end ≤ 6) ⌝ }
-    ensures { λ r. ⌜ r ≡ lowestFrom (matches config q) first (end - first) ⌝ }
+fn lowest(image: &[u8], key: Key, first: u8, end: u8) -> Hit
+    requires { ⌜ (length (now image) ≡ imageSize) × (first ≤ end) × (end ≤ 6) ⌝ }
+    ensures { λ r. ⌜ r ≡ lowestFrom (matches (now (image .entry)) key) first (end - first) ⌝ }
 {
-    let mut i = first;
+    let mut filter = first;
     loop {
-        if i == end {
+        if filter == end {
             break Hit::Miss;
         }
-        if is_match(config, q, i) {
-            break Hit::Filter(i);
+        if is_match(image, key, filter) {
+            break Hit::Filter(filter);
         }
-        i += 1;
+        filter += 1;
     }
 }
 
-pub fn lowest_for(config: [u8; 48], q: Key, b: RxBuffer) -> Hit
-    ensures { λ r. ⌜ r ≡ lowestFor config q b ⌝ }
+fn lowest_for(image: &[u8], key: Key, buffer: RxBuffer) -> Hit
+    requires { ⌜ length (now image) ≡ imageSize ⌝ }
+    ensures { λ r. ⌜ r ≡ lowestFor (take 48 (now (image .entry))) key buffer ⌝ }
 {
-    match b {
-        RxBuffer::Rxb0 => lowest(config, q, 0, 2),
-        RxBuffer::Rxb1 => lowest(config, q, 2, 6),
+    match buffer {
+        RxBuffer::Rxb0 => lowest(image, key, 0, 2),
+        RxBuffer::Rxb1 => lowest(image, key, 2, 6),
+    }
+}
+
+fn rx_control(image: &[u8], buffer: RxBuffer) -> u8
+    requires { ⌜ length (now image) ≡ imageSize ⌝ }
+    ensures { λ r. ⌜ r ≡ rxControl (controlOf (now (image .entry)) .rx) buffer ⌝ }
+{
+    match buffer {
+        RxBuffer::Rxb0 => image[RXB0CTRL],
+        RxBuffer::Rxb1 => image[RXB1CTRL],
     }
 }
 
 // RXM 11 takes any frame.
-fn takes_any(c: Control, b: RxBuffer) -> bool
-    ensures { λ r. ⌜ r ≡ takesAny (rxControl (c .rx) b) ⌝ }
+fn takes_any(ctrl: u8) -> bool
+    ensures { λ r. ⌜ r ≡ takesAny ctrl ⌝ }
 {
-    let x = c.rx;
-    let ctrl = registers::rx_control(x, b);
     ctrl / 32 % 4 == 3
 }
 
-pub fn hit_for(c: Control, config: [u8; 48], q: Key, b: RxBuffer) -> Hit
-    ensures { λ r. ⌜ r ≡ hitFor c config q b ⌝ }
+pub fn hit_for(image: &[u8], key: Key, buffer: RxBuffer) -> Hit
+    requires { ⌜ length (now image) ≡ imageSize ⌝ }
+    ensures { λ r. ⌜ r ≡ hitFor (controlOf (now (image .entry))) (take 48 (now (image .entry))) key buffer ⌝ }
 {
-    if takes_any(c, b) {
+    if takes_any(rx_control(image, buffer)) {
         return Hit::Filter(0);
     }
-    lowest_for(config, q, b)
+    lowest_for(image, key, buffer)
 }

@@ -2,6 +2,9 @@
 ghost use mathlib.Core.Path.{_≡_};
 ghost use mathlib.Core.Bool.{cond};
 ghost use Prim.Native.Nat.{_+_, _*_, _%_, _≤_};
+ghost use lib.ListN.{length};
+ghost use Rattle.registers.specs.State.{withRxBytes};
+ghost use Rattle.image.specs.Image.{imageSize, coreOf, Became};
 ghost use Rattle.receiving.specs.Receiving.{
   sidhOf,
   sidlOf,
@@ -13,141 +16,150 @@ ghost use Rattle.receiving.specs.Receiving.{
   filled,
   headed,
   bytesStored,
+  bytesAfter,
 };
 use crate::Key;
+use crate::Verdict;
 use records::Frame;
 use records::carried_by;
 
-fn sidh(f: Frame) -> u8
-    ensures { λ r. ⌜ r ≡ sidhOf f ⌝ }
+// Where the bytes of RXB0 and RXB1 lie, behind their control bytes.
+const RXB0: usize = 96;
+
+const RXB1: usize = 112;
+
+fn sidh(frame: Frame) -> u8
+    ensures { λ r. ⌜ r ≡ sidhOf frame ⌝ }
 {
-    let id = f.identifier;
-    if f.extended {
-        (id / 2097152 % 256) as u8
+    let identifier = frame.identifier;
+    if frame.extended {
+        (identifier / 2097152 % 256) as u8
     } else {
-        (id / 8 % 256) as u8
+        (identifier / 8 % 256) as u8
     }
 }
 
-fn sidl_standard(id: u32, remote: bool) -> u8
-    ensures { λ r. ⌜ r ≡ id % 8 * 32 + cond remote 16 0 ⌝ }
+fn sidl_standard(identifier: u32, remote: bool) -> u8
+    ensures { λ r. ⌜ r ≡ identifier % 8 * 32 + cond remote 16 0 ⌝ }
 {
     if remote {
-        (id % 8 * 32 + 16) as u8
+        (identifier % 8 * 32 + 16) as u8
     } else {
-        (id % 8 * 32) as u8
+        (identifier % 8 * 32) as u8
     }
 }
 
-fn sidl(f: Frame) -> u8
-    ensures { λ r. ⌜ r ≡ sidlOf f ⌝ }
+fn sidl(frame: Frame) -> u8
+    ensures { λ r. ⌜ r ≡ sidlOf frame ⌝ }
 {
-    let id = f.identifier;
-    if f.extended {
-        (id / 262144 % 8 * 32 + 8 + id / 65536 % 4) as u8
+    let identifier = frame.identifier;
+    if frame.extended {
+        (identifier / 262144 % 8 * 32 + 8 + identifier / 65536 % 4) as u8
     } else {
-        sidl_standard(id, f.remote)
+        sidl_standard(identifier, frame.remote)
     }
 }
 
-fn eid8(f: Frame) -> u8
-    ensures { λ r. ⌜ r ≡ eid8Of f ⌝ }
+fn eid8(frame: Frame) -> u8
+    ensures { λ r. ⌜ r ≡ eid8Of frame ⌝ }
 {
-    let id = f.identifier;
-    if f.extended {
-        (id / 256 % 256) as u8
+    let identifier = frame.identifier;
+    if frame.extended {
+        (identifier / 256 % 256) as u8
     } else {
         0
     }
 }
 
-fn eid0(f: Frame) -> u8
-    ensures { λ r. ⌜ r ≡ eid0Of f ⌝ }
+fn eid0(frame: Frame) -> u8
+    ensures { λ r. ⌜ r ≡ eid0Of frame ⌝ }
 {
-    let id = f.identifier;
-    if f.extended { (id % 256) as u8 } else { 0 }
+    let identifier = frame.identifier;
+    if frame.extended {
+        (identifier % 256) as u8
+    } else {
+        0
+    }
 }
 
-fn dlc(f: Frame) -> u8
-    ensures { λ r. ⌜ r ≡ dlcOf f ⌝ }
+fn dlc(frame: Frame) -> u8
+    ensures { λ r. ⌜ r ≡ dlcOf frame ⌝ }
 {
-    f.length | bits::choose(f.extended & f.remote, 64, 0)
+    frame.length | bits::choose(frame.extended & frame.remote, 64, 0)
 }
 
-fn carried_in(f: Frame) -> u8
-    ensures { λ r. ⌜ r ≡ carriedBy f ⌝ }
+fn carried_in(frame: Frame) -> u8
+    ensures { λ r. ⌜ r ≡ carriedBy frame ⌝ }
 {
-    carried_by(f.remote, f.length)
+    carried_by(frame.remote, frame.length)
 }
 
-pub fn key_of(f: Frame) -> Key
-    ensures { λ r. ⌜ r ≡ keyOf f ⌝ }
+pub fn key_of(frame: Frame) -> Key
+    ensures { λ r. ⌜ r ≡ keyOf frame ⌝ }
 {
-    let x = f.extended;
-    let n = carried_in(f);
-    let first = f.bytes[0];
-    let second = f.bytes[1];
+    let extended = frame.extended;
+    let count = carried_in(frame);
+    let first = frame.bytes[0];
+    let second = frame.bytes[1];
     Key {
-        extended: x,
-        sidh: sidh(f),
-        sidl: sidl(f),
-        eid8: bits::choose(x, eid8(f), first),
-        eid0: bits::choose(x, eid0(f), second),
-        reach1: bits::choose(x, 227, 224),
-        reach2: bits::choose(x | (0 < n), 255, 0),
-        reach3: bits::choose(x | (1 < n), 255, 0),
+        extended,
+        sidh: sidh(frame),
+        sidl: sidl(frame),
+        eid8: bits::choose(extended, eid8(frame), first),
+        eid0: bits::choose(extended, eid0(frame), second),
+        reach1: bits::choose(extended, 227, 224),
+        reach2: bits::choose(extended | (0 < count), 255, 0),
+        reach3: bits::choose(extended | (1 < count), 255, 0),
     }
-}
-
-// The data bytes that the frame carries go behind the header of the buffer at `at`.
-fn fill(rx: [u8; 32], at: usize, f: Frame) -> [u8; 32]
-    requires { ⌜ at ≤ 16 ⌝ }
-    ensures { λ r. ⌜ r ≡ filled rx at f 8 ⌝ }
-{
-    let n = carried_in(f);
-    let mut out = rx;
-    let mut j: u8 = 0;
-    while j < 8 {
-        let i = at + 6 + (j as usize);
-        let byte = f.bytes[j as usize];
-        let old = out[i];
-        out[i] = bits::choose(j < n, byte, old);
-        j += 1;
-    }
-    out
 }
 
 // The identifier and length bytes of the buffer at `at`.
-fn head(rx: [u8; 32], at: usize, f: Frame) -> [u8; 32]
-    requires { ⌜ at ≤ 16 ⌝ }
-    ensures { λ r. ⌜ r ≡ headed rx at f ⌝ }
+fn head(image: &mut [u8], at: usize, frame: Frame)
+    requires { ⌜ (length (now image) ≡ imageSize) × (at ≤ 112) ⌝ }
+    ensures { λ _. ⌜ now (image .exit) ≡ headed (now (image .entry)) at frame ⌝ }
 {
-    let mut out = rx;
-    out[at + 1] = sidh(f);
-    out[at + 2] = sidl(f);
-    out[at + 3] = eid8(f);
-    out[at + 4] = eid0(f);
-    out[at + 5] = dlc(f);
-    out
+    image[at + 1] = sidh(frame);
+    image[at + 2] = sidl(frame);
+    image[at + 3] = eid8(frame);
+    image[at + 4] = eid0(frame);
+    image[at + 5] = dlc(frame);
 }
 
-fn put(rx: [u8; 32], at: usize, f: Frame) -> [u8; 32]
-    requires { ⌜ at ≤ 16 ⌝ }
-    ensures { λ r. ⌜ r ≡ bytesStored rx at f ⌝ }
+// The data bytes that the frame carries go behind them.
+fn fill(image: &mut [u8], at: usize, frame: Frame)
+    requires { ⌜ (length (now image) ≡ imageSize) × (at ≤ 112) ⌝ }
+    ensures { λ _. ⌜ now (image .exit) ≡ filled (now (image .entry)) at frame 8 ⌝ }
 {
-    fill(head(rx, at, f), at, f)
+    let count = carried_in(frame);
+    let mut j: u8 = 0;
+    while j < 8 {
+        let i = at + 6 + (j as usize);
+        let byte = frame.bytes[j as usize];
+        let old = image[i];
+        image[i] = bits::choose(j < count, byte, old);
+        j += 1;
+    }
 }
 
-// A frame stored in RXB0.
-pub fn put0(rx: [u8; 32], f: Frame) -> [u8; 32]
-    ensures { λ r. ⌜ r ≡ bytesStored rx 0 f ⌝ }
+fn put(image: &mut [u8], at: usize, frame: Frame)
+    requires { ⌜ (length (now image) ≡ imageSize) × (at ≤ 112) ⌝ }
+    ensures { λ _. ⌜ now (image .exit) ≡ bytesStored (now (image .entry)) at frame ⌝ }
 {
-    put(rx, 0, f)
+    head(image, at, frame);
+    fill(image, at, frame);
 }
 
-// A frame stored in RXB1.
-pub fn put1(rx: [u8; 32], f: Frame) -> [u8; 32]
-    ensures { λ r. ⌜ r ≡ bytesStored rx 16 f ⌝ }
+// The bytes of a frame, where its verdict stores it.
+pub fn put_by(image: &mut [u8], verdict: Verdict, frame: Frame)
+    requires { ⌜ length (now image) ≡ imageSize ⌝ }
+    ensures { λ _. ⌜ Became (now (image .entry)) (now (image .exit)) (withRxBytes (coreOf (now (image .entry))) (bytesAfter verdict (coreOf (now (image .entry)) .rx) frame)) ⌝ }
 {
-    put(rx, 16, f)
+    match verdict {
+        Verdict::Unmatched => {}
+        Verdict::Stored0(_) => put(image, RXB0, frame),
+        Verdict::Stored1(_) => put(image, RXB1, frame),
+        Verdict::RolledOver(_) => put(image, RXB1, frame),
+        Verdict::Lost0 => {}
+        Verdict::Lost1 => {}
+    }
 }

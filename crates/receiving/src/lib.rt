@@ -3,12 +3,8 @@ mod filters;
 mod frames;
 mod verdicts;
 
-pub use filters::hit_for;
-pub use filters::lowest_for;
-pub use frames::key_of;
 pub use verdicts::receive;
 pub use verdicts::reception_number;
-pub use verdicts::verdict_of;
 
 // What the filters compare of a frame: four bytes, and which bits of SIDL, EID8 and EID0 count.
 pub struct Key {
@@ -46,9 +42,4 @@ pub enum Reception {
     Lost,
     NotListening,
     Woke,
-}
-
-pub struct Received {
-    pub core: registers::Core,
-    pub answer: Reception,
 }

@@ -1,5 +1,9 @@
 // What becomes of a frame, and the chip after it.
 ghost use mathlib.Core.Path.{_≡_};
+ghost use lib.ListN.{length, take};
+ghost use Rattle.bits.specs.Bit.{hasBit};
+ghost use Rattle.registers.specs.State.{BUKT, withControl};
+ghost use Rattle.image.specs.Image.{imageSize, controlOf, coreOf, Became, Acted, Answered};
 ghost use Rattle.receiving.specs.Receiving.{
   receptionNumber,
   hitFor,
@@ -10,37 +14,34 @@ ghost use Rattle.receiving.specs.Receiving.{
   verdictOf,
   receptionOf,
   hitBits,
-  rxStored0,
-  rxStored1,
-  rxRolled,
-  flagged,
   lostAt,
   controlAfter,
-  bytesAfter,
-  receivedBy,
   receivedOf,
 };
-ghost use Rattle.bits.specs.Bit.{hasBit};
-ghost use Rattle.registers.specs.State.{BUKT};
 use crate::Hit;
 use crate::Key;
-use crate::Received;
 use crate::Reception;
 use crate::Verdict;
 use crate::filters::hit_for;
 use crate::frames::key_of;
-use crate::frames::put0;
-use crate::frames::put1;
+use crate::frames::put_by;
+use image::CANINTF;
+use image::EFLG;
+use image::RXB0CTRL;
+use image::RXB1CTRL;
+use image::SIZE;
 use records::Frame;
-use registers::Control;
-use registers::Core;
+use registers::BUKT;
+use registers::ERRIF;
+use registers::RX0IF;
+use registers::RX1IF;
+use registers::RXRTR;
 use registers::RxBuffer;
-use registers::RxControl;
 
-pub fn reception_number(r: Reception) -> u8
-    ensures { λ n. ⌜ n ≡ receptionNumber r ⌝ }
+pub fn reception_number(reception: Reception) -> u8
+    ensures { λ r. ⌜ r ≡ receptionNumber reception ⌝ }
 {
-    match r {
+    match reception {
         Reception::NoMatch => 0,
         Reception::InRxb0 => 1,
         Reception::InRxb1 => 2,
@@ -50,84 +51,88 @@ pub fn reception_number(r: Reception) -> u8
     }
 }
 
-fn is_full0(c: Control) -> bool
-    ensures { λ r. ⌜ r ≡ isFull c RxBuffer.Rxb0 ⌝ }
+fn is_full0(image: &[u8]) -> bool
+    requires { ⌜ length (now image) ≡ imageSize ⌝ }
+    ensures { λ r. ⌜ r ≡ isFull (controlOf (now (image .entry))) RxBuffer.Rxb0 ⌝ }
 {
-    let f = c.flags.canintf;
-    bits::has(f, 0)
+    image[CANINTF] / RX0IF % 2 == 1
 }
 
-fn is_full1(c: Control) -> bool
-    ensures { λ r. ⌜ r ≡ isFull c RxBuffer.Rxb1 ⌝ }
+fn is_full1(image: &[u8]) -> bool
+    requires { ⌜ length (now image) ≡ imageSize ⌝ }
+    ensures { λ r. ⌜ r ≡ isFull (controlOf (now (image .entry))) RxBuffer.Rxb1 ⌝ }
 {
-    let f = c.flags.canintf;
-    f / 2 % 2 == 1
+    image[CANINTF] / RX1IF % 2 == 1
 }
 
 // The rollover bit.
-fn has_bukt(c: Control) -> bool
-    ensures { λ r. ⌜ r ≡ hasBit (c .rx .rxb0) BUKT ⌝ }
+fn has_bukt(image: &[u8]) -> bool
+    requires { ⌜ length (now image) ≡ imageSize ⌝ }
+    ensures { λ r. ⌜ r ≡ hasBit (controlOf (now (image .entry)) .rx .rxb0) BUKT ⌝ }
 {
-    let x = c.rx.rxb0;
-    x / 4 % 2 == 1
+    image[RXB0CTRL] / BUKT % 2 == 1
 }
 
 // Matched for RXB0.
-fn judge0(c: Control, h: u8) -> Verdict
-    ensures { λ r. ⌜ r ≡ verdict0 c h ⌝ }
+fn judge0(image: &[u8], filter: u8) -> Verdict
+    requires { ⌜ length (now image) ≡ imageSize ⌝ }
+    ensures { λ r. ⌜ r ≡ verdict0 (controlOf (now (image .entry))) filter ⌝ }
 {
-    if is_full0(c) {
-        if has_bukt(c) {
-            if is_full1(c) {
+    if is_full0(image) {
+        if has_bukt(image) {
+            if is_full1(image) {
                 Verdict::Lost1
             } else {
-                Verdict::RolledOver(h)
+                Verdict::RolledOver(filter)
             }
         } else {
             Verdict::Lost0
         }
     } else {
-        Verdict::Stored0(h)
+        Verdict::Stored0(filter)
     }
 }
 
 // Not matched for RXB0.
-fn judge1(c: Control, hit: Hit) -> Verdict
-    ensures { λ r. ⌜ r ≡ verdict1 c hit ⌝ }
+fn judge1(image: &[u8], hit: Hit) -> Verdict
+    requires { ⌜ length (now image) ≡ imageSize ⌝ }
+    ensures { λ r. ⌜ r ≡ verdict1 (controlOf (now (image .entry))) hit ⌝ }
 {
     match hit {
         Hit::Miss => Verdict::Unmatched,
-        Hit::Filter(h) => {
-            if is_full1(c) {
+        Hit::Filter(filter) => {
+            if is_full1(image) {
                 Verdict::Lost1
             } else {
-                Verdict::Stored1(h)
+                Verdict::Stored1(filter)
             }
         }
     }
 }
 
 // By the hit of RXB0; only where it has none are the filters of RXB1 asked.
-fn judge(c: Control, config: [u8; 48], q: Key, hit: Hit) -> Verdict
-    ensures { λ r. ⌜ r ≡ verdictBy c hit (hitFor c config q RxBuffer.Rxb1) ⌝ }
+fn judge(image: &[u8], key: Key, hit: Hit) -> Verdict
+    requires { ⌜ length (now image) ≡ imageSize ⌝ }
+    ensures { λ r. ⌜ r ≡ verdictBy (controlOf (now (image .entry))) hit (hitFor (controlOf (now (image .entry))) (take 48 (now (image .entry))) key RxBuffer.Rxb1) ⌝ }
 {
     match hit {
-        Hit::Filter(h) => judge0(c, h),
-        Hit::Miss => judge1(c, hit_for(c, config, q, RxBuffer::Rxb1)),
+        Hit::Filter(filter) => judge0(image, filter),
+        Hit::Miss => judge1(image, hit_for(image, key, RxBuffer::Rxb1)),
     }
 }
 
-pub fn verdict_of(c: Control, config: [u8; 48], f: Frame) -> Verdict
-    ensures { λ r. ⌜ r ≡ verdictOf c config f ⌝ }
+fn verdict_of(image: &[u8], frame: Frame) -> Verdict
+    requires { ⌜ length (now image) ≡ imageSize ⌝ }
+    ensures { λ r. ⌜ r ≡ verdictOf (controlOf (now (image .entry))) (take 48 (now (image .entry))) frame ⌝ }
 {
-    let q = key_of(f);
-    judge(c, config, q, hit_for(c, config, q, RxBuffer::Rxb0))
+    let key = key_of(frame);
+    judge(image, key, hit_for(image, key, RxBuffer::Rxb0))
 }
 
-fn reception_of(v: Verdict) -> Reception
-    ensures { λ r. ⌜ r ≡ receptionOf v ⌝ }
+fn reception_of(verdict: Verdict) -> Reception
+    ensures { λ r. ⌜ r ≡ receptionOf verdict ⌝ }
 {
-    match v {
+    match verdict {
         Verdict::Unmatched => Reception::NoMatch,
         Verdict::Stored0(_) => Reception::InRxb0,
         Verdict::Stored1(_) => Reception::InRxb1,
@@ -137,99 +142,77 @@ fn reception_of(v: Verdict) -> Reception
     }
 }
 
-fn hit_bits(h: u8, remote: bool) -> u8
-    ensures { λ r. ⌜ r ≡ hitBits h remote ⌝ }
+fn hit_bits(filter: u8, remote: bool) -> u8
+    ensures { λ r. ⌜ r ≡ hitBits filter remote ⌝ }
 {
-    h | bits::choose(remote, 8, 0)
+    filter | bits::choose(remote, RXRTR, 0)
 }
 
-fn store0(r: RxControl, h: u8, remote: bool) -> RxControl
-    ensures { λ x. ⌜ x ≡ rxStored0 r h remote ⌝ }
+fn mark_rxb0(image: &mut [u8], filter: u8, remote: bool)
+    requires { ⌜ length (now image) ≡ imageSize ⌝ }
+    ensures { λ _. ⌜ Became (now (image .entry)) (now (image .exit)) (withControl (coreOf (now (image .entry))) (controlAfter (Verdict.Stored0 filter) (controlOf (now (image .entry))) remote)) ⌝ }
 {
-    let mut d = r;
-    d.rxb0 = bits::merge(9, r.rxb0, hit_bits(h, remote));
-    d
+    let canintf = image[CANINTF] | RX0IF;
+    image[RXB0CTRL] = bits::merge(9, image[RXB0CTRL], hit_bits(filter, remote));
+    image[CANINTF] = canintf;
 }
 
-fn store1(r: RxControl, h: u8, remote: bool) -> RxControl
-    ensures { λ x. ⌜ x ≡ rxStored1 r h remote ⌝ }
+fn mark_rxb1(image: &mut [u8], filter: u8, remote: bool)
+    requires { ⌜ length (now image) ≡ imageSize ⌝ }
+    ensures { λ _. ⌜ Became (now (image .entry)) (now (image .exit)) (withControl (coreOf (now (image .entry))) (controlAfter (Verdict.Stored1 filter) (controlOf (now (image .entry))) remote)) ⌝ }
 {
-    let mut d = r;
-    d.rxb1 = bits::merge(15, r.rxb1, hit_bits(h, remote));
-    d
+    let canintf = image[CANINTF] | RX1IF;
+    image[RXB1CTRL] = bits::merge(15, image[RXB1CTRL], hit_bits(filter, remote));
+    image[CANINTF] = canintf;
 }
 
-fn roll(r: RxControl, h: u8, remote: bool) -> RxControl
-    ensures { λ x. ⌜ x ≡ rxRolled r h remote ⌝ }
+// The hit of a frame that rolls over shows in both control bytes.
+fn mark_rolled(image: &mut [u8], filter: u8, remote: bool)
+    requires { ⌜ length (now image) ≡ imageSize ⌝ }
+    ensures { λ _. ⌜ Became (now (image .entry)) (now (image .exit)) (withControl (coreOf (now (image .entry))) (controlAfter (Verdict.RolledOver filter) (controlOf (now (image .entry))) remote)) ⌝ }
 {
-    let mut d = r;
-    d.rxb0 = bits::merge(1, r.rxb0, h);
-    d.rxb1 = bits::merge(15, r.rxb1, hit_bits(h, remote));
-    d
+    let canintf = image[CANINTF] | RX1IF;
+    let second = bits::merge(15, image[RXB1CTRL], hit_bits(filter, remote));
+    image[RXB0CTRL] = bits::merge(1, image[RXB0CTRL], filter);
+    image[RXB1CTRL] = second;
+    image[CANINTF] = canintf;
 }
 
-// The control bytes after storing, and the flag set.
-fn flag(c: Control, r: RxControl, k: u8) -> Control
-    ensures { λ x. ⌜ x ≡ flagged c r k ⌝ }
+// A loss: the overflow bit, by its number, and ERRIF.
+fn lose(image: &mut [u8], overflow: u8)
+    requires { ⌜ length (now image) ≡ imageSize ⌝ }
+    ensures { λ _. ⌜ Became (now (image .entry)) (now (image .exit)) (withControl (coreOf (now (image .entry))) (lostAt (controlOf (now (image .entry))) overflow)) ⌝ }
 {
-    let f = bits::set(c.flags.canintf, k);
-    let mut d = c;
-    d.rx = r;
-    d.flags.canintf = f;
-    d
+    let canintf = image[CANINTF] | ERRIF;
+    image[EFLG] = bits::set(image[EFLG], overflow);
+    image[CANINTF] = canintf;
 }
 
-// A loss: the overflow bit and ERRIF.
-fn lose(c: Control, k: u8) -> Control
-    ensures { λ x. ⌜ x ≡ lostAt c k ⌝ }
+// The control registers that a frame changes.
+fn mark(image: &mut [u8], verdict: Verdict, remote: bool)
+    requires { ⌜ length (now image) ≡ imageSize ⌝ }
+    ensures { λ _. ⌜ Became (now (image .entry)) (now (image .exit)) (withControl (coreOf (now (image .entry))) (controlAfter verdict (controlOf (now (image .entry))) remote)) ⌝ }
 {
-    let f = bits::set(c.flags.canintf, 5);
-    let e = bits::set(c.flags.eflg, k);
-    let mut d = c;
-    d.flags.canintf = f;
-    d.flags.eflg = e;
-    d
-}
-
-fn control_after(v: Verdict, c: Control, remote: bool) -> Control
-    ensures { λ r. ⌜ r ≡ controlAfter v c remote ⌝ }
-{
-    let x = c.rx;
-    match v {
-        Verdict::Unmatched => c,
-        Verdict::Stored0(h) => flag(c, store0(x, h, remote), 0),
-        Verdict::Stored1(h) => flag(c, store1(x, h, remote), 1),
-        Verdict::RolledOver(h) => flag(c, roll(x, h, remote), 1),
-        Verdict::Lost0 => lose(c, 6),
-        Verdict::Lost1 => lose(c, 7),
-    }
-}
-
-fn bytes_after(v: Verdict, rx: [u8; 32], f: Frame) -> [u8; 32]
-    ensures { λ r. ⌜ r ≡ bytesAfter v rx f ⌝ }
-{
-    match v {
-        Verdict::Unmatched => rx,
-        Verdict::Stored0(_) => put0(rx, f),
-        Verdict::Stored1(_) => put1(rx, f),
-        Verdict::RolledOver(_) => put1(rx, f),
-        Verdict::Lost0 => rx,
-        Verdict::Lost1 => rx,
+    match verdict {
+        Verdict::Unmatched => {}
+        Verdict::Stored0(filter) => mark_rxb0(image, filter, remote),
+        Verdict::Stored1(filter) => mark_rxb1(image, filter, remote),
+        Verdict::RolledOver(filter) => mark_rolled(image, filter, remote),
+        Verdict::Lost0 => lose(image, 6),
+        Verdict::Lost1 => lose(image, 7),
     }
 }
 
 // The receive rules whole.
-pub fn receive(k: Core, f: Frame) -> Received
-    ensures { λ r. ⌜ r ≡ receivedOf k f ⌝ }
+pub fn receive(image: &mut [u8], frame: Frame) -> Reception
+    ensures { λ r. ⌜ Answered (now (image .entry)) r (receivedOf (coreOf (now (image .entry))) frame .answer) Reception.NotListening ⌝ }
+    ensures { λ _. ⌜ Acted (now (image .entry)) (now (image .exit)) (receivedOf (coreOf (now (image .entry))) frame .core) ⌝ }
 {
-    let c = k.control;
-    let config = k.config;
-    let rx = k.rx;
-    let v = verdict_of(c, config, f);
-    let after = bytes_after(v, rx, f);
-    let a = reception_of(v);
-    let mut d = k;
-    d.control = control_after(v, c, f.remote);
-    d.rx = after;
-    Received { core: d, answer: a }
+    if image.len() != SIZE {
+        return Reception::NotListening;
+    }
+    let verdict = verdict_of(image, frame);
+    mark(image, verdict, frame.remote);
+    put_by(image, verdict, frame);
+    reception_of(verdict)
 }

@@ -1,5 +1,5 @@
 -- Calls, records and answers: the record of 16 bytes, its kind, its fields, and what refusal 2 names.
-use Prim.Native.Nat.{ℕ, zero, suc, _+_, _*_}
+use Prim.Native.Nat.{ℕ, zero, suc, _+_, _*_, _/_, _%_}
 use mathlib.Core.Bool.{Bool, true, false, cond, not, _&&_, _||_}
 use mathlib.Core.List.{List, [], _∷_}
 use lib.Dec.{eqb, ltb, leb}
@@ -8,6 +8,7 @@ use Rattle.bits.specs.Bit.{hasBit}
 use Rattle.records.specs.declared.Kind.{Kind}
 use Rattle.records.specs.declared.Kind.the-variants.{SelectLow, Exchange, SelectHigh, FrameHeard, BusIdle, FrameEnds, ReceiveError, Recovery, Unknown}
 use Rattle.records.specs.declared.Frame.{Frame}
+use Rattle.records.specs.declared.Fields.{Fields}
 
 -- The refusals of a step, by number; 0 stands for none.
 abbrev pub accepted : ℕ
@@ -128,3 +129,11 @@ soundBy Unknown r = false
 -- Not named by refusal 2: a known kind, fields in their ranges, every other byte 0.
 unfoldable pub soundOf : List ℕ → Bool
 soundOf r = soundBy (kindOf r) r
+
+-- ---- a record taken apart: the 16 bytes that its fields stand for, the identifier high byte first, the data as one number low byte first
+unfoldable pub recordOf : Fields → List ℕ
+recordOf f =
+    f .kind ∷ f .field ∷ f .length ∷ f .spare
+    ∷ f .identifier / 0x1000000 % 256 ∷ f .identifier / 0x10000 % 256 ∷ f .identifier / 0x100 % 256 ∷ f .identifier % 256
+    ∷ f .data % 256 ∷ f .data / 0x100 % 256 ∷ f .data / 0x10000 % 256 ∷ f .data / 0x1000000 % 256
+    ∷ f .data / 0x100000000 % 256 ∷ f .data / 0x10000000000 % 256 ∷ f .data / 0x1000000000000 % 256 ∷ f .data / 0x100000000000000 % 256 ∷ []

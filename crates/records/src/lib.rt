@@ -1,12 +1,11 @@
-// A record of 16 bytes: its kind, its fields, and whether refusal 2 names it.
+// A record of 16 bytes taken apart: its kind, its fields, and whether refusal 2 names it.
 ghost use mathlib.Core.Path.{_≡_};
-ghost use Prim.Native.Nat.{ℕ, _+_, _*_, _<_, _≤_};
+ghost use mathlib.Core.List.{[], _∷_};
+ghost use Prim.Native.Nat.{_+_, _*_, _/_, _%_, _<_, _^_, _-_, min};
 ghost use Rattle.records.specs.Records.{
   kindBy,
-  kindOf,
   isEvent,
   zeros,
-  identifierOf,
   frameOf,
   carried,
   largestIdentifier,
@@ -14,8 +13,8 @@ ghost use Rattle.records.specs.Records.{
   soundFrame,
   largestField,
   soundPlain,
-  soundBy,
   soundOf,
+  recordOf,
 };
 
 pub enum Kind {
@@ -39,6 +38,22 @@ pub struct Frame {
     pub bytes: [u8; 8],
 }
 
+// A record taken apart. The data bytes are one number, low byte first.
+pub struct Fields {
+    pub kind: u8,
+    pub field: u8,
+    pub length: u8,
+    pub spare: u8,
+    pub identifier: u32,
+    pub data: u64,
+}
+
+// What a step tells of a record: its refusal, 0 for none, and its answer.
+pub struct Outcome {
+    pub refusal: u8,
+    pub answer: u8,
+}
+
 pub const ACCEPTED: u8 = 0;
 
 pub const REFUSED_SELECT: u8 = 1;
@@ -51,10 +66,10 @@ pub const REFUSED_NO_FLIGHT: u8 = 4;
 
 pub const REFUSED_STATE: u8 = 5;
 
-pub fn kind_by(b: u8) -> Kind
-    ensures { λ r. ⌜ r ≡ kindBy b ⌝ }
+pub fn kind_by(number: u8) -> Kind
+    ensures { λ r. ⌜ r ≡ kindBy number ⌝ }
 {
-    match b {
+    match number {
         0 => Kind::SelectLow,
         1 => Kind::Exchange,
         2 => Kind::SelectHigh,
@@ -67,16 +82,10 @@ pub fn kind_by(b: u8) -> Kind
     }
 }
 
-pub fn kind_of(r: [u8; 16]) -> Kind
-    ensures { λ k. ⌜ k ≡ kindOf r ⌝ }
+pub fn is_event(kind: Kind) -> bool
+    ensures { λ r. ⌜ r ≡ isEvent kind ⌝ }
 {
-    kind_by(r[0])
-}
-
-pub fn is_event(k: Kind) -> bool
-    ensures { λ r. ⌜ r ≡ isEvent k ⌝ }
-{
-    match k {
+    match kind {
         Kind::SelectLow => false,
         Kind::Exchange => false,
         Kind::SelectHigh => false,
@@ -89,38 +98,77 @@ pub fn is_event(k: Kind) -> bool
     }
 }
 
-// Bytes 2 to 15 are 0; one test of their OR.
-fn rest_zero(r: [u8; 16]) -> bool
-    ensures { λ b. ⌜ b ≡ zeros r 2 14 ⌝ }
-{
-    let low = r[2] | r[3] | r[4] | r[5] | r[6] | r[7] | r[8];
-    let all = low | r[9] | r[10] | r[11] | r[12] | r[13] | r[14] | r[15];
-    all == 0
-}
-
-// Four bytes, high byte first.
-fn joined(a: u8, b: u8, c: u8, d: u8) -> u32
-    ensures { λ r. ⌜ r ≡ a * 0x1000000 + b * 0x10000 + c * 0x100 + d ⌝ }
+// Four bytes as one number, high byte first.
+pub fn joined(a: u8, b: u8, c: u8, d: u8) -> u32
+    ensures { λ r. ⌜ (r / 0x1000000 % 256 ≡ a) × (r / 0x10000 % 256 ≡ b) × (r / 0x100 % 256 ≡ c) × (r % 256 ≡ d) ⌝ }
 {
     (a as u32) * 16777216 + (b as u32) * 65536 + (c as u32) * 256 + (d as u32)
 }
 
-fn identifier_of(r: [u8; 16]) -> u32
-    ensures { λ n. ⌜ n ≡ identifierOf r ⌝ }
+// Eight bytes as one number, low byte first.
+pub fn word(a: u8, b: u8, c: u8, d: u8, e: u8, f: u8, g: u8, h: u8) -> u64
+    ensures low { λ r. ⌜ (r % 256 ≡ a) × (r / 0x100 % 256 ≡ b) × (r / 0x10000 % 256 ≡ c) × (r / 0x1000000 % 256 ≡ d) ⌝ }
+    ensures high { λ r. ⌜ (r / 0x100000000 % 256 ≡ e) × (r / 0x10000000000 % 256 ≡ f) × (r / 0x1000000000000 % 256 ≡ g) × (r / 0x100000000000000 % 256 ≡ h) ⌝ }
 {
-    joined(r[4], r[5], r[6], r[7])
+    (a as u64)
+        + (b as u64) * 0x100
+        + (c as u64) * 0x10000
+        + (d as u64) * 0x1000000
+        + (e as u64) * 0x100000000
+        + (f as u64) * 0x10000000000
+        + (g as u64) * 0x1000000000000
+        + (h as u64) * 0x100000000000000
 }
 
-pub fn frame_of(r: [u8; 16]) -> Frame
-    ensures { λ f. ⌜ f ≡ frameOf r ⌝ }
+// A record taken apart.
+pub fn fields_of(record: [u8; 16]) -> Fields
+    ensures { λ r. ⌜ recordOf r ≡ «record» ⌝ }
 {
-    let bytes = [r[8], r[9], r[10], r[11], r[12], r[13], r[14], r[15]];
+    Fields {
+        kind: record[0],
+        field: record[1],
+        length: record[2],
+        spare: record[3],
+        identifier: joined(record[4], record[5], record[6], record[7]),
+        data: word(
+            record[8],
+            record[9],
+            record[10],
+            record[11],
+            record[12],
+            record[13],
+            record[14],
+            record[15],
+        ),
+    }
+}
+
+// The data bytes.
+fn split(data: u64) -> [u8; 8]
+    ensures { λ r. ⌜ r ≡ «data» % 256 ∷ «data» / 0x100 % 256 ∷ «data» / 0x10000 % 256 ∷ «data» / 0x1000000 % 256 ∷ «data» / 0x100000000 % 256 ∷ «data» / 0x10000000000 % 256 ∷ «data» / 0x1000000000000 % 256 ∷ «data» / 0x100000000000000 % 256 ∷ [] ⌝ }
+{
+    [
+        (data % 256) as u8,
+        (data / 0x100 % 256) as u8,
+        (data / 0x10000 % 256) as u8,
+        (data / 0x1000000 % 256) as u8,
+        (data / 0x100000000 % 256) as u8,
+        (data / 0x10000000000 % 256) as u8,
+        (data / 0x1000000000000 % 256) as u8,
+        (data / 0x100000000000000 % 256) as u8,
+    ]
+}
+
+pub fn frame_of(fields: Fields) -> Frame
+    ensures { λ r. ⌜ r ≡ frameOf (recordOf fields) ⌝ }
+{
+    let data = fields.data;
     Frame {
-        extended: r[1] % 2 == 1,
-        remote: r[1] / 2 % 2 == 1,
-        length: r[2],
-        identifier: identifier_of(r),
-        bytes: bytes,
+        extended: fields.field % 2 == 1,
+        remote: fields.field / 2 % 2 == 1,
+        length: fields.length,
+        identifier: fields.identifier,
+        bytes: split(data),
     }
 }
 
@@ -137,33 +185,46 @@ fn largest_identifier(extended: bool) -> u32
     if extended { 536870911 } else { 2047 }
 }
 
-// The data bytes past the first n are 0.
-fn past_zero(r: [u8; 16], n: u8) -> bool
-    ensures { λ b. ⌜ b ≡ zerosPast r n 8 ⌝ }
+// The largest number of data bytes with none but the first count.
+fn largest_data(count: u8) -> u64
+    ensures { λ r. ⌜ r ≡ 256 ^ min count 8 - 1 ⌝ }
 {
-    ((0 < n) | (r[8] == 0))
-        & ((1 < n) | (r[9] == 0))
-        & ((2 < n) | (r[10] == 0))
-        & ((3 < n) | (r[11] == 0))
-        & ((4 < n) | (r[12] == 0))
-        & ((5 < n) | (r[13] == 0))
-        & ((6 < n) | (r[14] == 0))
-        & ((7 < n) | (r[15] == 0))
+    match count {
+        0 => 0,
+        1 => 0xFF,
+        2 => 0xFFFF,
+        3 => 0xFFFFFF,
+        4 => 0xFFFFFFFF,
+        5 => 0xFFFFFFFFFF,
+        6 => 0xFFFFFFFFFFFF,
+        7 => 0xFFFFFFFFFFFFFF,
+        _ => 0xFFFFFFFFFFFFFFFF,
+    }
 }
 
-fn is_sound_frame(r: [u8; 16]) -> bool
-    ensures { λ b. ⌜ b ≡ soundFrame r ⌝ }
+// The data bytes past the first count are 0.
+fn past_zero(fields: Fields, count: u8) -> bool
+    ensures { λ r. ⌜ r ≡ zerosPast (recordOf fields) count 8 ⌝ }
 {
-    let most = largest_identifier(r[1] % 2 == 1);
-    let n = carried_by(r[1] / 2 % 2 == 1, r[2]);
-    let id = identifier_of(r);
-    (r[1] <= 3) & (r[2] <= 8) & (r[3] == 0) & (id <= most) & past_zero(r, n)
+    fields.data <= largest_data(count)
 }
 
-fn largest_field(k: Kind) -> u8
-    ensures { λ r. ⌜ r ≡ largestField k ⌝ }
+fn is_sound_frame(fields: Fields) -> bool
+    ensures { λ r. ⌜ r ≡ soundFrame (recordOf fields) ⌝ }
 {
-    match k {
+    let most = largest_identifier(fields.field % 2 == 1);
+    let count = carried_by(fields.field / 2 % 2 == 1, fields.length);
+    (fields.field <= 3)
+        & (fields.length <= 8)
+        & (fields.spare == 0)
+        & (fields.identifier <= most)
+        & past_zero(fields, count)
+}
+
+fn largest_field(kind: Kind) -> u8
+    ensures { λ r. ⌜ r ≡ largestField kind ⌝ }
+{
+    match kind {
         Kind::SelectLow => 0,
         Kind::Exchange => 255,
         Kind::SelectHigh => 0,
@@ -176,32 +237,34 @@ fn largest_field(k: Kind) -> u8
     }
 }
 
-// A record of a kind that has no more than one field.
-pub fn is_sound_plain(k: Kind, r: [u8; 16]) -> bool
-    ensures { λ b. ⌜ b ≡ soundPlain k r ⌝ }
+// Bytes 2 to 15 are 0.
+fn rest_zero(fields: Fields) -> bool
+    ensures { λ r. ⌜ r ≡ zeros (recordOf fields) 2 14 ⌝ }
 {
-    (r[1] <= largest_field(k)) & rest_zero(r)
+    (fields.length == 0) & (fields.spare == 0) & (fields.identifier == 0) & (fields.data == 0)
 }
 
-pub fn is_sound_by(k: Kind, r: [u8; 16]) -> bool
-    ensures { λ b. ⌜ b ≡ soundBy k r ⌝ }
+// A record of a kind that has no more than one field.
+pub fn is_sound_plain(kind: Kind, fields: Fields) -> bool
+    ensures { λ r. ⌜ r ≡ soundPlain kind (recordOf fields) ⌝ }
 {
-    match k {
-        Kind::SelectLow => is_sound_plain(k, r),
-        Kind::Exchange => is_sound_plain(k, r),
-        Kind::SelectHigh => is_sound_plain(k, r),
-        Kind::FrameHeard => is_sound_frame(r),
-        Kind::BusIdle => is_sound_plain(k, r),
-        Kind::FrameEnds => is_sound_plain(k, r),
-        Kind::ReceiveError => is_sound_plain(k, r),
-        Kind::Recovery => is_sound_plain(k, r),
-        Kind::Unknown => false,
-    }
+    (fields.field <= largest_field(kind)) & rest_zero(fields)
 }
 
 // Refusal 2 does not name the record.
-pub fn is_sound(r: [u8; 16]) -> bool
-    ensures { λ b. ⌜ b ≡ soundOf r ⌝ }
+pub fn is_sound(fields: Fields) -> bool
+    ensures { λ r. ⌜ r ≡ soundOf (recordOf fields) ⌝ }
 {
-    is_sound_by(kind_of(r), r)
+    let kind = kind_by(fields.kind);
+    match kind {
+        Kind::SelectLow => is_sound_plain(kind, fields),
+        Kind::Exchange => is_sound_plain(kind, fields),
+        Kind::SelectHigh => is_sound_plain(kind, fields),
+        Kind::FrameHeard => is_sound_frame(fields),
+        Kind::BusIdle => is_sound_plain(kind, fields),
+        Kind::FrameEnds => is_sound_plain(kind, fields),
+        Kind::ReceiveError => is_sound_plain(kind, fields),
+        Kind::Recovery => is_sound_plain(kind, fields),
+        Kind::Unknown => false,
+    }
 }

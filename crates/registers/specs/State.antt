@@ -1,7 +1,7 @@
 -- The state that the rules carry from step to step, without the SPI side: names of bits, numbers of the enums, and one setter for each part.
 use Prim.Native.Nat.{ℕ}
 use mathlib.Core.Bool.{Bool, true, false}
-use mathlib.Core.List.{List}
+use mathlib.Core.List.{List, []}
 use lib.Dec.{eqb}
 use lib.ListN.{getD, set}
 use Rattle.bits.specs.Bit.{hasBit}
@@ -191,6 +191,13 @@ withConfig k l = record { control = k .control; config = l; tx = k .tx; rx = k .
 
 abbrev pub withTxBytes : Core → List ℕ → Core
 withTxBytes k l = record { control = k .control; config = k .config; tx = l; rx = k .rx }
+
+abbrev pub withRxBytes : Core → List ℕ → Core
+withRxBytes k l = record { control = k .control; config = k .config; tx = k .tx; rx = l }
+
+-- control registers with no bytes beside them
+abbrev pub bare : Control → Core
+bare c = record { control = c; config = []; tx = []; rx = [] }
 
 -- ---- a list of bytes with the one at an index passed through f
 abbrev pub updated : List ℕ → ℕ → (ℕ → ℕ) → List ℕ

@@ -16,28 +16,30 @@ ghost use Rattle.registers.specs.Errors.{
 };
 use crate::Control;
 use crate::Counters;
+use crate::ERRIF;
 
-pub fn is_bus_off(n: Counters) -> bool
-    ensures { λ r. ⌜ r ≡ isBusOff n ⌝ }
+pub fn is_bus_off(counters: Counters) -> bool
+    ensures { λ r. ⌜ r ≡ isBusOff counters ⌝ }
 {
-    256 <= n.tec
+    256 <= counters.tec
 }
 
-fn flag(on: bool, mask: u8) -> u8
+// A bit that is set or not.
+pub fn flag(on: bool, mask: u8) -> u8
     ensures { λ r. ⌜ r ≡ cond on mask 0 ⌝ }
 {
     if on { mask } else { 0 }
 }
 
-pub fn error_flags(n: Counters) -> u8
-    ensures { λ r. ⌜ r ≡ errorFlags n ⌝ }
+pub fn error_flags(counters: Counters) -> u8
+    ensures { λ r. ⌜ r ≡ errorFlags counters ⌝ }
 {
-    let t = n.tec;
-    let r = n.rec;
-    let off = flag(256 <= t, 32);
-    let passive = flag(128 <= t, 16)
-        | (flag(128 <= r, 8)
-            | (flag(96 <= t, 4) | (flag(96 <= r, 2) | flag((96 <= t) | (96 <= r), 1))));
+    let tec = counters.tec;
+    let rec = counters.rec;
+    let off = flag(256 <= tec, 32);
+    let passive = flag(128 <= tec, 16)
+        | (flag(128 <= rec, 8)
+            | (flag(96 <= tec, 4) | (flag(96 <= rec, 2) | flag((96 <= tec) | (96 <= rec), 1))));
     off | passive
 }
 
@@ -48,84 +50,84 @@ fn is_rise(old: u8, new: u8) -> bool
 }
 
 // The counters move, and ERRIF rises with a flag.
-pub fn moved(c: Control, n: Counters) -> Control
-    ensures { λ r. ⌜ r ≡ movedTo c n ⌝ }
+pub fn moved(control: Control, counters: Counters) -> Control
+    ensures { λ r. ⌜ r ≡ movedTo control counters ⌝ }
 {
-    let before = c.counters;
-    let f = c.flags.canintf;
-    let rise = is_rise(error_flags(before), error_flags(n));
-    let g = bits::choose(rise, f | 32, f);
-    let mut d = c;
-    d.counters = n;
-    d.flags.canintf = g;
-    d
+    let before = control.counters;
+    let canintf = control.flags.canintf;
+    let rise = is_rise(error_flags(before), error_flags(counters));
+    let raised = bits::choose(rise, canintf | ERRIF, canintf);
+    let mut next = control;
+    next.counters = counters;
+    next.flags.canintf = raised;
+    next
 }
 
-pub fn tec_less(n: Counters) -> Counters
-    ensures { λ r. ⌜ r ≡ tecLess n ⌝ }
+pub fn tec_less(counters: Counters) -> Counters
+    ensures { λ r. ⌜ r ≡ tecLess counters ⌝ }
 {
-    let mut d = n;
-    let t = n.tec;
-    d.tec = less_one_u16(t);
-    d
+    let mut next = counters;
+    let tec = counters.tec;
+    next.tec = less_one(tec);
+    next
 }
 
-fn less_one_u16(t: u16) -> u16
-    ensures { λ r. ⌜ r ≡ t - 1 ⌝ }
+fn less_one(tec: u16) -> u16
+    ensures { λ r. ⌜ r ≡ tec - 1 ⌝ }
 {
-    if t == 0 { 0 } else { t - 1 }
+    if tec == 0 { 0 } else { tec - 1 }
 }
 
-fn capped_tec(t: u16) -> u16
-    ensures { λ r. ⌜ r ≡ min (t + 8) 263 ⌝ }
+fn capped_tec(tec: u16) -> u16
+    ensures { λ r. ⌜ r ≡ min (tec + 8) 263 ⌝ }
 {
-    if 255 <= t { 263 } else { t + 8 }
+    if 255 <= tec { 263 } else { tec + 8 }
 }
 
-pub fn tec_more(n: Counters) -> Counters
-    ensures { λ r. ⌜ r ≡ tecMore n ⌝ }
+pub fn tec_more(counters: Counters) -> Counters
+    ensures { λ r. ⌜ r ≡ tecMore counters ⌝ }
 {
-    let mut d = n;
-    let t = n.tec;
-    d.tec = capped_tec(t);
-    d
+    let mut next = counters;
+    let tec = counters.tec;
+    next.tec = capped_tec(tec);
+    next
 }
 
-fn heard_rec(r: u8) -> u8
-    ensures { λ x. ⌜ x ≡ cond (ltb 127 r) 127 (r - 1) ⌝ }
+pub fn heard_rec(rec: u8) -> u8
+    ensures { λ x. ⌜ x ≡ cond (ltb 127 rec) 127 (rec - 1) ⌝ }
 {
-    if 127 < r {
+    if 127 < rec {
         127
-    } else if r == 0 {
+    } else if rec == 0 {
         0
     } else {
-        r - 1
+        rec - 1
     }
 }
 
 // A good frame was heard.
-pub fn rec_less(n: Counters) -> Counters
-    ensures { λ r. ⌜ r ≡ recLess n ⌝ }
+pub fn rec_less(counters: Counters) -> Counters
+    ensures { λ r. ⌜ r ≡ recLess counters ⌝ }
 {
-    let mut d = n;
-    let r = n.rec;
-    d.rec = heard_rec(r);
-    d
+    let mut next = counters;
+    let rec = counters.rec;
+    next.rec = heard_rec(rec);
+    next
 }
 
-fn capped_rec(r: u8, by: u8) -> u8
-    ensures { λ x. ⌜ x ≡ min (r + by) 255 ⌝ }
+fn capped_rec(rec: u8, by: u8) -> u8
+    ensures { λ x. ⌜ x ≡ min (rec + by) 255 ⌝ }
 {
-    if 255 - by <= r { 255 } else { r + by }
+    if 255 - by <= rec { 255 } else { rec + by }
 }
 
-pub fn rec_more(n: Counters, by: u8) -> Counters
-    ensures { λ r. ⌜ r ≡ recMore n by ⌝ }
+pub fn rec_more(counters: Counters, by: u8) -> Counters
+    ensures { λ r. ⌜ r ≡ recMore counters by ⌝ }
 {
-    let mut d = n;
-    let r = n.rec;
-    d.rec = capped_rec(r, by);
-    d
+    let mut next = counters;
+    let rec = counters.rec;
+    next.rec = capped_rec(rec, by);
+    next
 }
 
 pub fn counters_zero() -> Counters

@@ -1,22 +1,25 @@
-// The registers and the state of the CAN side: what an address holds and reads, modes and error counters.
+// The registers and the state of the CAN side: the address map, modes and error counters.
 mod errors;
 mod map;
 mod modes;
 mod parts;
 
 pub use errors::counters_zero;
+pub use errors::error_flags;
+pub use errors::flag;
+pub use errors::heard_rec;
 pub use errors::is_bus_off;
 pub use errors::moved;
 pub use errors::rec_less;
 pub use errors::rec_more;
 pub use errors::tec_less;
 pub use errors::tec_more;
-pub use map::hold;
+pub use map::canstat;
+pub use map::capped;
+pub use map::first_control;
 pub use map::int_is_low;
-pub use map::power_on_core;
-pub use map::read;
+pub use map::is_profile;
 pub use map::region_of;
-pub use map::reset;
 pub use map::rx_control;
 pub use modes::enter;
 pub use modes::is_configuration;
@@ -24,6 +27,7 @@ pub use modes::is_loopback;
 pub use modes::is_normal;
 pub use modes::mode_number;
 pub use modes::request_in;
+pub use modes::requested_by;
 pub use modes::sends_in;
 pub use modes::settle;
 pub use modes::waits_in;
@@ -34,8 +38,50 @@ pub use parts::is_idle;
 pub use parts::same_tx;
 pub use parts::tx_control;
 pub use parts::tx_number;
-pub use parts::with_control;
 pub use parts::with_tx_control;
+
+// Bits of CANINTF and CANINTE; RX0IF is bit 0.
+pub const RX0IF: u8 = 1;
+
+pub const RX1IF: u8 = 2;
+
+pub const TX0IF: u8 = 4;
+
+pub const TX1IF: u8 = 8;
+
+pub const TX2IF: u8 = 16;
+
+pub const ERRIF: u8 = 32;
+
+pub const WAKIF: u8 = 64;
+
+pub const MERRF: u8 = 128;
+
+// Bits of CANCTRL.
+pub const OSM: u8 = 8;
+
+pub const ABAT: u8 = 16;
+
+// Bits of TXBnCTRL.
+pub const TXREQ: u8 = 8;
+
+pub const TXERR: u8 = 16;
+
+pub const MLOA: u8 = 32;
+
+pub const ABTF: u8 = 64;
+
+// Bits of RXB0CTRL and RXBnCTRL.
+pub const BUKT1: u8 = 2;
+
+pub const BUKT: u8 = 4;
+
+pub const RXRTR: u8 = 8;
+
+// Bits of EFLG.
+pub const RX0OVR: u8 = 64;
+
+pub const RX1OVR: u8 = 128;
 
 pub enum Mode {
     Normal,

@@ -16,14 +16,15 @@ use crate::Counters;
 use crate::Mode;
 use crate::Request;
 use crate::State;
+use crate::TXREQ;
 use crate::TxControl;
 use crate::errors::counters_zero;
 use crate::parts::is_idle;
 
-pub fn mode_number(m: Mode) -> u8
-    ensures { λ r. ⌜ r ≡ modeNumber m ⌝ }
+pub fn mode_number(mode: Mode) -> u8
+    ensures { λ r. ⌜ r ≡ modeNumber mode ⌝ }
 {
-    match m {
+    match mode {
         Mode::Normal => 0,
         Mode::Sleep => 1,
         Mode::Loopback => 2,
@@ -32,10 +33,10 @@ pub fn mode_number(m: Mode) -> u8
     }
 }
 
-pub fn is_configuration(m: Mode) -> bool
-    ensures { λ r. ⌜ r ≡ isConfiguration m ⌝ }
+pub fn is_configuration(mode: Mode) -> bool
+    ensures { λ r. ⌜ r ≡ isConfiguration mode ⌝ }
 {
-    match m {
+    match mode {
         Mode::Normal => false,
         Mode::Sleep => false,
         Mode::Loopback => false,
@@ -44,10 +45,10 @@ pub fn is_configuration(m: Mode) -> bool
     }
 }
 
-pub fn is_normal(m: Mode) -> bool
-    ensures { λ r. ⌜ r ≡ isNormal m ⌝ }
+pub fn is_normal(mode: Mode) -> bool
+    ensures { λ r. ⌜ r ≡ isNormal mode ⌝ }
 {
-    match m {
+    match mode {
         Mode::Normal => true,
         Mode::Sleep => false,
         Mode::Loopback => false,
@@ -56,10 +57,10 @@ pub fn is_normal(m: Mode) -> bool
     }
 }
 
-pub fn is_loopback(m: Mode) -> bool
-    ensures { λ r. ⌜ r ≡ isLoopback m ⌝ }
+pub fn is_loopback(mode: Mode) -> bool
+    ensures { λ r. ⌜ r ≡ isLoopback mode ⌝ }
 {
-    match m {
+    match mode {
         Mode::Normal => false,
         Mode::Sleep => false,
         Mode::Loopback => true,
@@ -69,10 +70,10 @@ pub fn is_loopback(m: Mode) -> bool
 }
 
 // Normal and Loopback send.
-pub fn sends_in(m: Mode) -> bool
-    ensures { λ r. ⌜ r ≡ sendsIn m ⌝ }
+pub fn sends_in(mode: Mode) -> bool
+    ensures { λ r. ⌜ r ≡ sendsIn mode ⌝ }
 {
-    match m {
+    match mode {
         Mode::Normal => true,
         Mode::Sleep => false,
         Mode::Loopback => true,
@@ -81,10 +82,10 @@ pub fn sends_in(m: Mode) -> bool
     }
 }
 
-fn requested_by(n: u8) -> Request
-    ensures { λ r. ⌜ r ≡ requested n ⌝ }
+pub fn requested_by(number: u8) -> Request
+    ensures { λ r. ⌜ r ≡ requested number ⌝ }
 {
-    match n {
+    match number {
         0 => Request::Wanted(Mode::Normal),
         1 => Request::Wanted(Mode::Sleep),
         2 => Request::Wanted(Mode::Loopback),
@@ -94,92 +95,92 @@ fn requested_by(n: u8) -> Request
     }
 }
 
-// The request that mode bits n make in mode m.
-pub fn request_in(m: Mode, n: u8) -> Request
-    ensures { λ r. ⌜ r ≡ requestIn m n ⌝ }
+// The request that mode bits number make in mode m.
+pub fn request_in(mode: Mode, number: u8) -> Request
+    ensures { λ r. ⌜ r ≡ requestIn mode number ⌝ }
 {
-    if n == mode_number(m) {
+    if number == mode_number(mode) {
         return Request::Nothing;
     }
-    requested_by(n)
+    requested_by(number)
 }
 
 // Some buffer has TXREQ.
-pub fn waits_in(t: TxControl) -> bool
-    ensures { λ r. ⌜ r ≡ waits t ⌝ }
+pub fn waits_in(tx: TxControl) -> bool
+    ensures { λ r. ⌜ r ≡ waits tx ⌝ }
 {
-    (t.txb0 / 8 % 2 == 1) | (t.txb1 / 8 % 2 == 1) | (t.txb2 / 8 % 2 == 1)
+    (tx.txb0 / TXREQ % 2 == 1) | (tx.txb1 / TXREQ % 2 == 1) | (tx.txb2 / TXREQ % 2 == 1)
 }
 
-fn counters_in(m: Mode, n: Counters) -> Counters
-    ensures { λ r. ⌜ r ≡ countersIn m n ⌝ }
+fn counters_in(mode: Mode, counters: Counters) -> Counters
+    ensures { λ r. ⌜ r ≡ countersIn mode counters ⌝ }
 {
-    match m {
-        Mode::Normal => n,
-        Mode::Sleep => n,
-        Mode::Loopback => n,
+    match mode {
+        Mode::Normal => counters,
+        Mode::Sleep => counters,
+        Mode::Loopback => counters,
         Mode::ListenOnly => counters_zero(),
         Mode::Configuration => counters_zero(),
     }
 }
 
-pub fn enter(c: Control, m: Mode) -> Control
-    ensures { λ r. ⌜ r ≡ entered c m ⌝ }
+pub fn enter(control: Control, mode: Mode) -> Control
+    ensures { λ r. ⌜ r ≡ entered control mode ⌝ }
 {
-    let n = c.counters;
-    let s = c.state;
-    let f = s.flight;
-    let q = s.request;
-    let t = State {
-        mode: m,
-        flight: f,
-        request: q,
+    let counters = control.counters;
+    let state = control.state;
+    let flight = state.flight;
+    let request = state.request;
+    let changed = State {
+        mode,
+        flight,
+        request,
     };
-    let mut d = c;
-    d.counters = counters_in(m, n);
-    d.state = t;
-    d
+    let mut next = control;
+    next.counters = counters_in(mode, counters);
+    next.state = changed;
+    next
 }
 
-pub fn with_request(c: Control, q: Request) -> Control
-    ensures { λ r. ⌜ r ≡ withRequest c q ⌝ }
+pub fn with_request(control: Control, request: Request) -> Control
+    ensures { λ r. ⌜ r ≡ withRequest control request ⌝ }
 {
-    let s = c.state;
-    let m = s.mode;
-    let f = s.flight;
-    let t = State {
-        mode: m,
-        flight: f,
-        request: q,
+    let state = control.state;
+    let mode = state.mode;
+    let flight = state.flight;
+    let changed = State {
+        mode,
+        flight,
+        request,
     };
-    let mut d = c;
-    d.state = t;
-    d
+    let mut next = control;
+    next.state = changed;
+    next
 }
 
-fn is_free_to_change(c: Control) -> bool
-    ensures { λ r. ⌜ r ≡ freeToChange c ⌝ }
+fn is_free_to_change(control: Control) -> bool
+    ensures { λ r. ⌜ r ≡ freeToChange control ⌝ }
 {
-    let s = c.state;
-    let m = s.mode;
-    let f = s.flight;
-    let t = c.tx;
-    !sends_in(m) | (!waits_in(t) & is_idle(f))
+    let state = control.state;
+    let mode = state.mode;
+    let flight = state.flight;
+    let tx = control.tx;
+    !sends_in(mode) | (!waits_in(tx) & is_idle(flight))
 }
 
 // A mode request is carried out where it can be: the last act of each accepted step.
-pub fn settle(c: Control) -> Control
-    ensures { λ r. ⌜ r ≡ settled c ⌝ }
+pub fn settle(control: Control) -> Control
+    ensures { λ r. ⌜ r ≡ settled control ⌝ }
 {
-    let s = c.state;
-    let q = s.request;
-    match q {
-        Request::Nothing => c,
+    let state = control.state;
+    let request = state.request;
+    match request {
+        Request::Nothing => control,
         Request::Wanted(m) => {
-            if is_free_to_change(c) {
-                enter(with_request(c, Request::Nothing), m)
+            if is_free_to_change(control) {
+                enter(with_request(control, Request::Nothing), m)
             } else {
-                c
+                control
             }
         }
     }

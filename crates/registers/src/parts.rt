@@ -8,89 +8,80 @@ ghost use Rattle.registers.specs.State.{
   inFlight,
   txControl,
   withTxControl,
-  withControl,
 };
+use crate::ABAT;
 use crate::Control;
-use crate::Core;
 use crate::Flight;
 use crate::TxBuffer;
 use crate::TxControl;
 
-pub fn tx_number(b: TxBuffer) -> u8
-    ensures { λ r. ⌜ r ≡ txNumber b ⌝ }
+pub fn tx_number(buffer: TxBuffer) -> u8
+    ensures { λ r. ⌜ r ≡ txNumber buffer ⌝ }
 {
-    match b {
+    match buffer {
         TxBuffer::Txb0 => 0,
         TxBuffer::Txb1 => 1,
         TxBuffer::Txb2 => 2,
     }
 }
 
-pub fn is_idle(f: Flight) -> bool
-    ensures { λ r. ⌜ r ≡ isIdle f ⌝ }
+pub fn is_idle(flight: Flight) -> bool
+    ensures { λ r. ⌜ r ≡ isIdle flight ⌝ }
 {
-    match f {
+    match flight {
         Flight::Idle => true,
         Flight::Of(_) => false,
     }
 }
 
-pub fn same_tx(a: TxBuffer, b: TxBuffer) -> bool
-    ensures { λ r. ⌜ r ≡ sameTx a b ⌝ }
+pub fn same_tx(first: TxBuffer, second: TxBuffer) -> bool
+    ensures { λ r. ⌜ r ≡ sameTx first second ⌝ }
 {
-    tx_number(a) == tx_number(b)
+    tx_number(first) == tx_number(second)
 }
 
-pub fn in_flight(f: Flight, b: TxBuffer) -> bool
-    ensures { λ r. ⌜ r ≡ inFlight f b ⌝ }
+pub fn in_flight(flight: Flight, buffer: TxBuffer) -> bool
+    ensures { λ r. ⌜ r ≡ inFlight flight buffer ⌝ }
 {
-    match f {
+    match flight {
         Flight::Idle => false,
-        Flight::Of(a) => same_tx(a, b),
+        Flight::Of(sent) => same_tx(sent, buffer),
     }
 }
 
-pub fn tx_control(t: TxControl, b: TxBuffer) -> u8
-    ensures { λ r. ⌜ r ≡ txControl t b ⌝ }
+pub fn tx_control(tx: TxControl, buffer: TxBuffer) -> u8
+    ensures { λ r. ⌜ r ≡ txControl tx buffer ⌝ }
 {
-    match b {
-        TxBuffer::Txb0 => t.txb0,
-        TxBuffer::Txb1 => t.txb1,
-        TxBuffer::Txb2 => t.txb2,
+    match buffer {
+        TxBuffer::Txb0 => tx.txb0,
+        TxBuffer::Txb1 => tx.txb1,
+        TxBuffer::Txb2 => tx.txb2,
     }
 }
 
-pub fn with_tx_control(t: TxControl, b: TxBuffer, v: u8) -> TxControl
-    ensures { λ r. ⌜ r ≡ withTxControl t b v ⌝ }
+pub fn with_tx_control(tx: TxControl, buffer: TxBuffer, value: u8) -> TxControl
+    ensures { λ r. ⌜ r ≡ withTxControl tx buffer value ⌝ }
 {
-    let mut d = t;
-    match b {
+    let mut next = tx;
+    match buffer {
         TxBuffer::Txb0 => {
-            d.txb0 = v;
-            d
+            next.txb0 = value;
+            next
         }
         TxBuffer::Txb1 => {
-            d.txb1 = v;
-            d
+            next.txb1 = value;
+            next
         }
         TxBuffer::Txb2 => {
-            d.txb2 = v;
-            d
+            next.txb2 = value;
+            next
         }
     }
 }
 
-pub fn aborts_all(c: Control) -> bool
-    ensures { λ r. ⌜ r ≡ abortsAll c ⌝ }
+pub fn aborts_all(control: Control) -> bool
+    ensures { λ r. ⌜ r ≡ abortsAll control ⌝ }
 {
-    let x = c.flags.canctrl;
-    x / 16 % 2 == 1
-}
-
-pub fn with_control(k: Core, c: Control) -> Core
-    ensures { λ r. ⌜ r ≡ withControl k c ⌝ }
-{
-    let mut d = k;
-    d.control = c;
-    d
+    let canctrl = control.flags.canctrl;
+    canctrl / ABAT % 2 == 1
 }

@@ -21,7 +21,6 @@ use Rattle.spi.specs.declared.Command.{Command}
 use Rattle.spi.specs.declared.Command.the-variants.{Reset, Read, Write, BitModify, ReadRxBuffer, LoadTxBuffer, Rts, ReadStatus, RxStatus, UnknownCode}
 use Rattle.spi.specs.declared.Instruction.{Instruction}
 use Rattle.spi.specs.declared.Instruction.the-variants.{First, ReadAddress, Reading, WriteAddress, Writing, ModifyAddress, ModifyMask, ModifyData, ReadingBuffer, StatusReply, RxStatusReply, Done}
-use Rattle.spi.specs.declared.Effect.{Effect}
 use Rattle.spi.specs.declared.Act.{Act}
 use Rattle.spi.specs.declared.Act.the-variants.{Rest, ResetAll, Fetch, Store, Modify, RequestToSend, ClearFlag, FetchStatus, FetchRxStatus, Refuse}
 
@@ -227,15 +226,6 @@ controlled FetchStatus c = settled c
 controlled FetchRxStatus c = settled c
 controlled (Refuse n) c = c
 
-abbrev pub effectOf : Act → Core → Effect
-effectOf x k = record { control = controlled x (k .control); refusal = refusalOf x; reply = replyTo x k; writes = isWrite x }
-
 -- an act that writes no byte: its control registers are all that it changes
 abbrev pub ActsWithin : Type 0
 ActsWithin = (x : Act) (k : Core) → isWrite x ≡ false → acted x k ≡ withControl k (controlled x (k .control))
-
-abbrev pub accepting : Control → ℕ → Effect
-accepting c reply = record { control = settled c; refusal = 0; reply = reply; writes = false }
-
-abbrev pub writing : Control → Effect
-writing c = record { control = c; refusal = 0; reply = 0; writes = true }

@@ -1,12 +1,14 @@
 // The SPI side as an automaton: a byte and the open instruction give the next open instruction and one act on the core.
-mod acts;
 mod codes;
+mod exchanges;
+mod lines;
+mod statuses;
 
-pub use acts::apply;
-pub use acts::perform;
-pub use codes::exchange_act;
-pub use codes::exchange_next;
-pub use codes::high_act;
+pub use exchanges::close;
+pub use exchanges::exchange;
+pub use exchanges::open;
+pub use lines::put_select;
+pub use lines::select_of;
 
 // What the next exchange is for.
 pub enum Instruction {
@@ -52,10 +54,8 @@ pub enum Act {
     Refuse(u8),
 }
 
-// What an act gives: its refusal and its reply, and the control registers after it, unless it writes bytes of the chip.
-pub struct Effect {
-    pub control: registers::Control,
-    pub refusal: u8,
-    pub reply: u8,
-    pub writes: bool,
+// The select line, and the open instruction while it is low.
+pub enum Select {
+    Raised,
+    Lowered(Instruction),
 }

@@ -1,9 +1,7 @@
+use Rattle.records.specs.Records.{recordOf}
 use borrow.Author.Needs.{needs}
 use Rattle.records.proofs.is_sound_plain.Statement.{statement}
 use Rattle.records.proofs.is_sound_plain.Tie as tie
-
-array-read-result : tie.Need-array-read-result
-array-read-result c = search needs
 
 largest-field-requires : tie.Need-largest-field-requires
 largest-field-requires c κs = search needs
@@ -12,8 +10,8 @@ rest-zero-requires : tie.Need-rest-zero-requires
 rest-zero-requires c κs = search needs
 
 returns : tie.Need-returns
-returns c = simp (c .rest-zero .ensures, c .before .largest-field .ensures)
+unfolding recordOf
+returns c = simp (c .rest-zero .ensures, c .before .before .largest-field .ensures)
 
 pub is-sound-plain-spec : {M : Type 1} → statement M
-is-sound-plain-spec =
-    tie.close (tie.spec array-read-result largest-field-requires rest-zero-requires returns)
+is-sound-plain-spec = tie.close (tie.spec largest-field-requires rest-zero-requires returns)

@@ -1,32 +1,51 @@
+use mathlib.Core.Path.{ap, _∙_}
+use Rattle.registers.specs.declared.Control.{Control}
+use Rattle.receiving.specs.Receiving.{receptionNumber}
+use Rattle.controller.specs.Sending.{sentBy}
+use Rattle.controller.proofs.Acts.{packed, received}
 use borrow.Author.Needs.{needs}
 use Rattle.controller.proofs.events.deliver.Statement.{statement}
 use Rattle.controller.proofs.events.deliver.Tie as tie
 
+frame-sent-requires : tie.Need-frame-sent-requires
+frame-sent-requires c κs = search needs
+
+control-of-requires : tie.Need-control-of-requires
+control-of-requires c κs = search needs
+
 sent-requires : tie.Need-sent-requires
 sent-requires c κs = search needs
 
-with-control-requires : tie.Need-with-control-requires
-with-control-requires c κs = search needs
-
-frame-sent-requires : tie.Need-frame-sent-requires
-frame-sent-requires c κs = search needs
+put-control-requires : tie.Need-put-control-requires
+put-control-requires c κs = search needs
 
 receive-requires : tie.Need-receive-requires
 receive-requires c κs = search needs
 
-answer-requires : tie.Need-answer-requires
-answer-requires c κs = search needs
+reception-number-requires : tie.Need-reception-number-requires
+reception-number-requires c κs = search needs
+
+same-length : tie.Need-same-length
+same-length c = search needs
 
 returns : tie.Need-returns
-returns c = simp (c .answer .ensures, c .before .receive .ensures, c .before .before .frame-sent .ensures, c .before .before .before .with-control .ensures, c .before .before .before .before .sent .ensures)
+returns c =
+    let a = c .before .before .before .before .before .before .before .before .before .before .before .before .before .before .before .args in
+    let sent = c .before .before .before .before .before .before .before .before .sent .ensures ∙ ap (λ (k : Control). sentBy k (a .buffer)) (c .before .before .before .before .before .before .before .before .before .before .control-of .ensures .image (c .before .before .before .before .before .before .before .before .before .before .before .before .before .before .before .pre)) in
+    let w =
+    received (c .before .before .before .before .before .before .before .before .before .before .before .before .frame-sent .result) (packed (c .before .before .before .before .before .before .before .before .before .before .before .before .before .before .before .pre) (c .before .before .before .before .before .before .before .put-control .ensures) sent)
+    (c .before .before .before .receive .ensures .0) (c .before .before .before .receive .ensures .1) in
+    simp (← c .before .before .before .before .before .before .before .before .before .before .before .before .frame-sent .ensures) (c .reception-number .ensures ∙ ap receptionNumber (w .0), w .1)
 
 pub deliver-spec : {M : Type 1} → statement M
 deliver-spec =
     tie.close
     (tie.spec
-    sent-requires
-    with-control-requires
     frame-sent-requires
+    control-of-requires
+    sent-requires
+    put-control-requires
     receive-requires
-    answer-requires
+    reception-number-requires
+    same-length
     returns)

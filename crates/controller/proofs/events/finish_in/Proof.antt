@@ -23,17 +23,29 @@ finish-requires-2 c κs = search needs
 finish-requires-3 : tie.Need-finish-requires-3
 finish-requires-3 c κs = search needs
 
+same-length : tie.Need-same-length
+same-length c = search needs
+
 returns : tie.Need-returns
-returns c = simp (c .deliver .ensures, c .before .enum-told .given .1, c .before .before .before .if1 .taken)
+returns c = simp (c .before .before .before .before .enum-told .given .1, c .before .before .before .before .before .before .if1 .taken) (c .before .before .deliver .ensures)
+
+same-length-2 : tie.Need-same-length-2
+same-length-2 c = search needs
 
 returns-2 : tie.Need-returns-2
-returns-2 c = simp (c .finish .ensures, c .before .enum-told2 .given .1, c .before .before .before .if1 .taken)
+returns-2 c = simp (c .before .before .before .before .enum-told2 .given .1, c .before .before .before .before .before .before .if1 .taken) (simp (c .before .before .before .before .enum-told2 .given .1) at (c .before .before .finish .ensures))
+
+same-length-3 : tie.Need-same-length-3
+same-length-3 c = search needs
 
 returns-3 : tie.Need-returns-3
-returns-3 c = simp (c .finish2 .ensures, c .before .enum-told3 .given .1, c .before .before .before .if1 .taken)
+returns-3 c = simp (c .before .before .before .before .enum-told3 .given .1, c .before .before .before .before .before .before .if1 .taken) (simp (c .before .before .before .before .enum-told3 .given .1) at (c .before .before .finish2 .ensures))
+
+same-length-4 : tie.Need-same-length-4
+same-length-4 c = search needs
 
 returns-4 : tie.Need-returns-4
-returns-4 c = simp (c .finish3 .ensures, c .before .if1 .left)
+returns-4 c = simp (c .before .before .before .before .if1 .left) (c .before .before .finish3 .ensures)
 
 pub finish-in-spec : {M : Type 1} → statement M
 finish-in-spec =
@@ -46,7 +58,11 @@ finish-in-spec =
     enum-told-3
     finish-requires-2
     finish-requires-3
+    same-length
     returns
+    same-length-2
     returns-2
+    same-length-3
     returns-3
+    same-length-4
     returns-4)

@@ -1,26 +1,27 @@
-use mathlib.Core.Path.{sym, _∙_}
+use mathlib.Core.Path.{refl, ap, _∙_}
+use Rattle.registers.specs.declared.Control.{Control}
 use Rattle.controller.specs.Events.{errorHeard}
+use Rattle.controller.proofs.Acts.{packed}
 use borrow.Author.Needs.{needs}
 use Rattle.controller.proofs.events.hear_error.Statement.{statement}
 use Rattle.controller.proofs.events.hear_error.Tie as tie
 
-counts-errors-requires : tie.Need-counts-errors-requires
-counts-errors-requires c κs = search needs
+control-of-requires : tie.Need-control-of-requires
+control-of-requires c κs = search needs
 
-error-adds-requires : tie.Need-error-adds-requires
-error-adds-requires c κs = search needs
+error-heard-requires : tie.Need-error-heard-requires
+error-heard-requires c κs = search needs
 
-err-requires : tie.Need-err-requires
-err-requires c κs = search needs
+put-control-requires : tie.Need-put-control-requires
+put-control-requires c κs = search needs
+
+same-length : tie.Need-same-length
+same-length c = search needs
 
 returns : tie.Need-returns
-unfolding errorHeard
-returns c = simp (c .err .ensures, c .before .error-adds .ensures, sym (c .before .before .before .counts-errors .ensures) ∙ c .before .before .if1 .taken, c .before .before .before .counts-errors .ensures)
-
-returns-2 : tie.Need-returns-2
-unfolding errorHeard
-returns-2 c = simp (sym (c .before .counts-errors .ensures) ∙ c .if1 .left, c .before .counts-errors .ensures)
+returns c = (refl, packed (c .before .before .before .before .before .before .before .before .pre) (c .before .before .put-control .ensures) (c .before .before .before .error-heard .ensures ∙ ap (λ (k : Control). errorHeard k (c .before .before .before .before .before .before .before .before .args .number)) (c .before .before .before .before .before .control-of .ensures .image (c .before .before .before .before .before .before .before .before .pre))))
 
 pub hear-error-spec : {M : Type 1} → statement M
 hear-error-spec =
-    tie.close (tie.spec counts-errors-requires error-adds-requires err-requires returns returns-2)
+    tie.close
+    (tie.spec control-of-requires error-heard-requires put-control-requires same-length returns)

@@ -1,5 +1,6 @@
-use mathlib.Core.Path.{sym, _∙_}
-use Rattle.receiving.specs.Receiving.{receivedOf}
+use mathlib.Core.Path.{refl, sym, _∙_}
+use Rattle.receiving.proofs.Stored.{unchanged}
+use Rattle.controller.proofs.Acts.{received}
 use borrow.Author.Needs.{needs}
 use Rattle.controller.proofs.events.hear_only.Statement.{statement}
 use Rattle.controller.proofs.events.hear_only.Tie as tie
@@ -7,20 +8,22 @@ use Rattle.controller.proofs.events.hear_only.Tie as tie
 is-bus-off-requires : tie.Need-is-bus-off-requires
 is-bus-off-requires c κs = search needs
 
-ignore-requires : tie.Need-ignore-requires
-ignore-requires c κs = search needs
+same-length : tie.Need-same-length
+same-length c = search needs
+
+returns : tie.Need-returns
+returns c = simp (sym (c .before .is-bus-off .ensures) ∙ c .if1 .taken) (refl, unchanged (c .before .before .before .before .args .image .now) (c .before .before .before .before .pre))
 
 receive-requires : tie.Need-receive-requires
 receive-requires c κs = search needs
 
-returns : tie.Need-returns
-unfolding receivedOf
-returns c = simp (c .ignore .ensures, sym (c .before .before .is-bus-off .ensures) ∙ c .before .if1 .taken, c .before .before .is-bus-off .ensures)
+same-length-2 : tie.Need-same-length-2
+same-length-2 c = search needs
 
 returns-2 : tie.Need-returns-2
-unfolding receivedOf
-returns-2 c = simp (c .receive .ensures, sym (c .before .before .is-bus-off .ensures) ∙ c .before .if1 .left, c .before .before .is-bus-off .ensures)
+returns-2 c = simp (sym (c .before .before .before .before .before .is-bus-off .ensures) ∙ c .before .before .before .before .if1 .left) (received (c .before .before .before .before .before .before .before .before .args .frame) (unchanged (c .before .before .before .before .before .before .before .before .args .image .now) (c .before .before .before .before .before .before .before .before .pre)) (c .before .before .receive .ensures .0) (c .before .before .receive .ensures .1))
 
 pub hear-only-spec : {M : Type 1} → statement M
 hear-only-spec =
-    tie.close (tie.spec is-bus-off-requires ignore-requires receive-requires returns returns-2)
+    tie.close
+    (tie.spec is-bus-off-requires same-length returns receive-requires same-length-2 returns-2)

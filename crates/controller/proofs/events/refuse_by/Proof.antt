@@ -1,3 +1,4 @@
+use Rattle.records.specs.Records.{recordOf}
 use borrow.Author.Needs.{needs}
 use Rattle.controller.proofs.events.refuse_by.Statement.{statement}
 use Rattle.controller.proofs.events.refuse_by.Tie as tie
@@ -25,9 +26,6 @@ refuse-busy-requires-2 c κs = search needs
 
 enum-told-6 : tie.Need-enum-told-6
 enum-told-6 c = search needs
-
-array-read-refuse-end : tie.Need-array-read-refuse-end
-array-read-refuse-end c = search needs
 
 refuse-end-requires : tie.Need-refuse-end-requires
 refuse-end-requires c κs = search needs
@@ -63,6 +61,7 @@ returns-5 : tie.Need-returns-5
 returns-5 c = simp (c .refuse-busy2 .ensures, c .before .enum-told5 .given .1)
 
 returns-6 : tie.Need-returns-6
+unfolding recordOf
 returns-6 c = simp (c .refuse-end .ensures, c .before .enum-told6 .given .1)
 
 returns-7 : tie.Need-returns-7
@@ -86,7 +85,6 @@ refuse-by-spec =
     enum-told-5
     refuse-busy-requires-2
     enum-told-6
-    array-read-refuse-end
     refuse-end-requires
     enum-told-7
     refuse-busy-requires-3

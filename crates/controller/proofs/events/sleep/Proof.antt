@@ -1,27 +1,44 @@
-use mathlib.Core.Path.{sym, _∙_}
+use mathlib.Core.Path.{refl, ap, _∙_}
+use borrow.Author.Tests.{eq-eqb, ne-eqb}
+use Rattle.image.specs.Image.{decoded}
+use Rattle.controller.specs.Events.{wokenControl}
+use Rattle.receiving.proofs.Stored.{unchanged}
+use Rattle.controller.proofs.Acts.{packed}
 use borrow.Author.Needs.{needs}
 use Rattle.controller.proofs.events.sleep.Statement.{statement}
 use Rattle.controller.proofs.events.sleep.Tie as tie
 
-wakes-requires : tie.Need-wakes-requires
-wakes-requires c κs = search needs
+slice-read-if1 : tie.Need-slice-read-if1
+slice-read-if1 c = search needs
 
-wake-requires : tie.Need-wake-requires
-wake-requires c κs = search needs
+control-of-requires : tie.Need-control-of-requires
+control-of-requires c κs = search needs
 
-with-control-requires : tie.Need-with-control-requires
-with-control-requires c κs = search needs
+woken-requires : tie.Need-woken-requires
+woken-requires c κs = search needs
+
+put-control-requires : tie.Need-put-control-requires
+put-control-requires c κs = search needs
+
+same-length : tie.Need-same-length
+same-length c = search needs
 
 returns : tie.Need-returns
-returns c = simp (c .with-control .ensures, c .before .wake .ensures, sym (c .before .before .before .wakes .ensures) ∙ c .before .before .if1 .taken, c .before .before .before .wakes .ensures)
-
-ignore-requires : tie.Need-ignore-requires
-ignore-requires c κs = search needs
+unfolding decoded
+returns c = simp (eq-eqb _ _ (c .before .before .before .before .before .before .before .if1 .taken)) (refl, packed (c .before .before .before .before .before .before .before .before .before .before .pre) (c .before .before .put-control .ensures) (c .before .before .before .woken .ensures ∙ ap wokenControl (c .before .before .before .before .before .control-of .ensures .image (c .before .before .before .before .before .before .before .before .before .before .pre))))
 
 returns-2 : tie.Need-returns-2
-returns-2 c = simp (c .ignore .ensures, sym (c .before .before .wakes .ensures) ∙ c .before .if1 .left, c .before .before .wakes .ensures)
+unfolding decoded
+returns-2 c = simp (ne-eqb _ _ (c .if1 .left)) (refl, unchanged (c .before .before .before .args .image .now) (c .before .before .before .pre))
 
 pub sleep-spec : {M : Type 1} → statement M
 sleep-spec =
     tie.close
-    (tie.spec wakes-requires wake-requires with-control-requires returns ignore-requires returns-2)
+    (tie.spec
+    slice-read-if1
+    control-of-requires
+    woken-requires
+    put-control-requires
+    same-length
+    returns
+    returns-2)

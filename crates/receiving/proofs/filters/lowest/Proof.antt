@@ -8,34 +8,32 @@ use Rattle.receiving.proofs.filters.lowest.Statement.{statement}
 use Rattle.receiving.proofs.filters.lowest.Tie as tie
 
 abbrev Inv-loop : tie.InvT-loop
-Inv-loop config q first end i₀ i =
-    (i ≤ end) × (lowestFrom (matches config q) first (end - first) ≡ lowestFrom (matches config q) i (end - i))
+Inv-loop image key first end filter₀ filter =
+    (filter ≤ end) × (lowestFrom (matches image key) first (end - first) ≡ lowestFrom (matches image key) filter (end - filter))
 
 abbrev μ-loop : tie.MeasureT-loop
-μ-loop config q first end i₀ i = end - i
+μ-loop image key first end filter₀ filter = end - filter
 
 loop-holds : tie.Need-loop-holds Inv-loop μ-loop
 loop-holds c = (omega arith, refl)
 
 is-match-requires : tie.Need-is-match-requires Inv-loop μ-loop
-is-match-requires c κs = omega arith
+is-match-requires c κs = (c .before .before .before .pre .0, omega arith)
 
-add-i : tie.Need-add-i Inv-loop μ-loop
-add-i c = omega arith
+add-filter : tie.Need-add-filter Inv-loop μ-loop
+add-filter c = omega arith
 
 loop-less : tie.Need-loop-less Inv-loop μ-loop
 loop-less c = omega arith
 
 loop-again : tie.Need-loop-again Inv-loop μ-loop
-loop-again c =
-    (omega arith, c .before .before .before .loop .inv .1 ∙ skipped _ _ _ (omega arith) (sym (c .before .is-match .ensures) ∙ c .if2 .left))
+loop-again c = (omega arith, c .before .before .before .loop .inv .1 ∙ skipped _ _ _ (omega arith) (sym (c .before .is-match .ensures) ∙ c .if2 .left))
 
 returns : tie.Need-returns Inv-loop μ-loop
 returns c = sym (c .before .loop .inv .1 ∙ ended _ _ _ (c .if1 .taken))
 
 returns-2 : tie.Need-returns-2 Inv-loop μ-loop
-returns-2 c =
-    sym (c .before .before .before .loop .inv .1 ∙ found _ _ _ (omega arith) (sym (c .before .is-match .ensures) ∙ c .if2 .taken))
+returns-2 c = sym (c .before .before .before .loop .inv .1 ∙ found _ _ _ (omega arith) (sym (c .before .is-match .ensures) ∙ c .if2 .taken))
 
 pub lowest-spec : {M : Type 1} → statement M
 lowest-spec =
@@ -45,7 +43,7 @@ lowest-spec =
     μ-loop
     loop-holds
     is-match-requires
-    add-i
+    add-filter
     loop-less
     loop-again
     returns

@@ -2,24 +2,25 @@
 use Prim.Native.Nat.{_≤_, _-_}
 use native.Mathlib.Omega.{arith}
 use native.Mathlib.Numerals.{add-one}
-use mathlib.Core.Path.{_≡_, refl}
+use mathlib.Core.Path.{_≡_, refl, sym, _∙_}
+use lib.ListN.{length, length-set}
+use Rattle.image.specs.Image.{imageSize}
 use Rattle.receiving.specs.Receiving.{filled}
-use mathlib.Core.Path.{sym}
 use borrow.Author.Needs.{needs}
 use Rattle.receiving.proofs.frames.fill.Statement.{statement}
 use Rattle.receiving.proofs.frames.fill.Tie as tie
 
 abbrev Inv-loop : tie.InvT-loop
-Inv-loop at f n out₀ j₀ out j = (j ≤ 8) × (out ≡ filled out₀ at f j)
+Inv-loop image₀ at frame count j₀ image j = (j ≤ 8) × (length image ≡ imageSize) × (image ≡ filled image₀ at frame j)
 
 abbrev μ-loop : tie.MeasureT-loop
-μ-loop at f n out₀ j₀ out j = 8 - j
+μ-loop image₀ at frame count j₀ image j = 8 - j
 
 carried-in-requires : tie.Need-carried-in-requires Inv-loop μ-loop
 carried-in-requires c κs = search needs
 
 loop-holds : tie.Need-loop-holds Inv-loop μ-loop
-loop-holds c = (omega arith, refl)
+loop-holds c = (omega arith, c .before .before .pre .0, refl)
 
 add-i : tie.Need-add-i Inv-loop μ-loop
 add-i c = search needs
@@ -36,14 +37,14 @@ cast-byte c = search needs
 element-copy-out-byte : tie.Need-element-copy-out-byte Inv-loop μ-loop
 element-copy-out-byte c = search needs
 
-array-read-old : tie.Need-array-read-old Inv-loop μ-loop
-array-read-old c = search needs
+slice-read-old : tie.Need-slice-read-old Inv-loop μ-loop
+slice-read-old c = search needs
 
 choose-requires : tie.Need-choose-requires Inv-loop μ-loop
 choose-requires c κs = search needs
 
-array-write-out : tie.Need-array-write-out Inv-loop μ-loop
-array-write-out c = search needs
+slice-write-image : tie.Need-slice-write-image Inv-loop μ-loop
+slice-write-image c = search needs
 
 add-j : tie.Need-add-j Inv-loop μ-loop
 add-j c = search needs
@@ -52,13 +53,13 @@ loop-less : tie.Need-loop-less Inv-loop μ-loop
 loop-less c = search needs
 
 loop-again : tie.Need-loop-again Inv-loop μ-loop
-loop-again c =
-    (omega arith, simp (add-one, c .choose .ensures, c .before .before .before .before .carried-in .ensures, sym (c .before .before .before .loop .inv .1)))
+loop-again c = (omega arith, simp length-set (c .before .before .before .before .loop .inv .1), simp (add-one, c .choose .ensures, c .before .before .before .before .before .carried-in .ensures, sym (c .before .before .before .before .loop .inv .2)))
+
+same-length : tie.Need-same-length Inv-loop μ-loop
+same-length c = c .before .loop .inv .1 ∙ sym (c .before .before .before .before .pre .0)
 
 returns : tie.Need-returns Inv-loop μ-loop
-returns c =
-    let e : c .before .loop .j ≡ 8 = omega arith in
-    rw e at (c .before .loop .inv .1)
+returns c = let e : c .before .loop .j ≡ 8 = omega arith in rw e at (c .before .loop .inv .2)
 
 pub fill-spec : {M : Type 1} → statement M
 fill-spec =
@@ -73,10 +74,11 @@ fill-spec =
     add-i-2
     cast-byte
     element-copy-out-byte
-    array-read-old
+    slice-read-old
     choose-requires
-    array-write-out
+    slice-write-image
     add-j
     loop-less
     loop-again
+    same-length
     returns)

@@ -9,9 +9,12 @@ head-requires c κs = search needs
 fill-requires : tie.Need-fill-requires
 fill-requires c κs = search needs
 
+same-length : tie.Need-same-length
+same-length c = search needs
+
 returns : tie.Need-returns
 unfolding bytesStored
-returns c = simp (c .fill .ensures, c .before .head .ensures)
+returns c = simp (← c .before .before .before .before .before .before .head .ensures) (c .before .before .fill .ensures)
 
 pub put-spec : {M : Type 1} → statement M
-put-spec = tie.close (tie.spec head-requires fill-requires returns)
+put-spec = tie.close (tie.spec head-requires fill-requires same-length returns)

@@ -1,4 +1,3 @@
-use Rattle.receiving.specs.Receiving.{hitFor}
 use borrow.Author.Needs.{needs}
 use Rattle.receiving.proofs.verdicts.judge.Statement.{statement}
 use Rattle.receiving.proofs.verdicts.judge.Tie as tie
@@ -19,12 +18,10 @@ judge1-requires : tie.Need-judge1-requires
 judge1-requires c κs = search needs
 
 returns : tie.Need-returns
-unfolding hitFor
-returns c = simp (c .judge0 .ensures, c .before .before .hit .given .1)
+returns c = simp (c .before .before .hit .given .1) (c .judge0 .ensures)
 
 returns-2 : tie.Need-returns-2
-unfolding hitFor
-returns-2 c = simp (c .judge1 .ensures, c .before .hit-for .ensures, c .before .before .enum-told .given .1)
+returns-2 c = simp (c .before .before .enum-told .given .1, ← c .before .hit-for .ensures) (c .judge1 .ensures)
 
 pub judge-spec : {M : Type 1} → statement M
 judge-spec =

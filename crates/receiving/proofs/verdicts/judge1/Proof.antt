@@ -16,10 +16,10 @@ returns : tie.Need-returns
 returns c = search needs
 
 returns-2 : tie.Need-returns-2
-returns-2 c = simp (sym (c .before .is-full1 .ensures) ∙ c .if1 .taken, c .before .is-full1 .ensures, c .before .before .before .hit .given .1)
+returns-2 c = simp (c .before .before .before .hit .given .1, sym (c .before .is-full1 .ensures) ∙ c .if1 .taken)
 
 returns-3 : tie.Need-returns-3
-returns-3 c = simp (sym (c .before .is-full1 .ensures) ∙ c .if1 .left, c .before .is-full1 .ensures, c .before .before .before .hit .given .1)
+returns-3 c = simp (c .before .before .before .hit .given .1, sym (c .before .is-full1 .ensures) ∙ c .if1 .left)
 
 pub judge1-spec : {M : Type 1} → statement M
 judge1-spec =

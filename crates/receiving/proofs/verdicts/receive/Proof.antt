@@ -1,30 +1,46 @@
-use Rattle.receiving.specs.Receiving.{receivedOf}
+use mathlib.Core.Path.{refl}
+use Rattle.registers.specs.declared.Core.{Core}
+use Rattle.registers.specs.State.{withRxBytes}
+use Rattle.image.proofs.Laws.{followed, acted, passed, answered, unanswered}
+use Rattle.receiving.specs.Receiving.{bytesAfter, receivedOf}
 use borrow.Author.Needs.{needs}
 use Rattle.receiving.proofs.verdicts.receive.Statement.{statement}
 use Rattle.receiving.proofs.verdicts.receive.Tie as tie
 
+returns : tie.Need-returns
+returns c = (unanswered (c .if1 .taken) refl, passed (c .if1 .taken))
+
 verdict-of-requires : tie.Need-verdict-of-requires
 verdict-of-requires c κs = search needs
 
-bytes-after-requires : tie.Need-bytes-after-requires
-bytes-after-requires c κs = search needs
+mark-requires : tie.Need-mark-requires
+mark-requires c κs = search needs
+
+put-by-requires : tie.Need-put-by-requires
+put-by-requires c κs = search needs
 
 reception-of-requires : tie.Need-reception-of-requires
 reception-of-requires c κs = search needs
 
-control-after-requires : tie.Need-control-after-requires
-control-after-requires c κs = search needs
+same-length : tie.Need-same-length
+same-length c = search needs
 
-returns : tie.Need-returns
+returns-2 : tie.Need-returns-2
 unfolding receivedOf
-returns c = simp (c .control-after .ensures, c .before .reception-of .ensures, c .before .before .bytes-after .ensures, c .before .before .before .verdict-of .ensures)
+returns-2 c =
+    let size = c .before .before .before .before .before .before .before .before .before .before .before .if1 .left in
+    let v = c .before .before .before .before .before .before .before .before .before .verdict-of .result in
+    simp (← c .before .before .before .before .before .before .before .before .before .verdict-of .ensures)
+    (answered size (c .reception-of .ensures), acted size (followed (λ (k : Core). withRxBytes k (bytesAfter v (k .rx) (c .before .before .before .before .before .before .before .before .before .before .before .before .before .args .frame))) (c .before .before .before .before .before .before .before .mark .ensures) (c .before .before .before .put-by .ensures)))
 
 pub receive-spec : {M : Type 1} → statement M
 receive-spec =
     tie.close
     (tie.spec
+    returns
     verdict-of-requires
-    bytes-after-requires
+    mark-requires
+    put-by-requires
     reception-of-requires
-    control-after-requires
-    returns)
+    same-length
+    returns-2)

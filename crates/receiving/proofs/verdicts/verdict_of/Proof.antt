@@ -14,7 +14,7 @@ judge-requires c κs = search needs
 
 returns : tie.Need-returns
 unfolding verdictOf
-returns c = simp (c .judge .ensures, c .before .hit-for .ensures, c .before .before .key-of .ensures)
+returns c = simp (← c .before .before .key-of .ensures, ← c .before .hit-for .ensures) (c .judge .ensures)
 
 pub verdict-of-spec : {M : Type 1} → statement M
 verdict-of-spec = tie.close (tie.spec key-of-requires hit-for-requires judge-requires returns)

@@ -1,0 +1,232 @@
+-- What the core is that an image stands for, after a change of its bytes. Assumes nothing.
+use mathlib.Core.Path.{_≡_, refl, ap, sym, subst, _∙_, fun-ext}
+use mathlib.Core.Bool.{Bool, true, false, cond}
+use mathlib.Core.List.{List, [], _∷_, _++_}
+use Prim.Native.Nat.{ℕ, zero, suc, _+_, _*_, _/_, _%_, _-_, _<_, _≤_}
+use native.Mathlib.Omega.{arith}
+use native.Mathlib.Nat.{add-suc}
+use lib.Dec.{eqb}
+use lib.ListN.{length, getD, set, take, drop, replicate, length-set, length-drop}
+use lib.Seq.{getD-set-same, getD-set-other, take-set-le, take-set-lt, drop-set-lt, drop-set-add, getD-drop, sets, length-sets, sets-eq, drop-cons, set-at, drop-drop}
+use borrow.Author.Tests.{eqb-true, eqb-false, ne-eqb}
+use Rattle.registers.specs.declared.Mode.{Mode}
+use Rattle.registers.specs.declared.Mode.the-variants.{Normal, Sleep, Loopback, ListenOnly, Configuration}
+use Rattle.registers.specs.declared.TxBuffer.the-variants.{Txb0, Txb1, Txb2}
+use Rattle.registers.specs.declared.Flight.{Flight}
+use Rattle.registers.specs.declared.Flight.the-variants.{Idle, Of}
+use Rattle.registers.specs.declared.Request.{Request}
+use Rattle.registers.specs.declared.Request.the-variants.{Nothing, Wanted}
+use Rattle.registers.specs.declared.Control.{Control}
+use Rattle.registers.specs.declared.Core.{Core}
+use Rattle.registers.specs.State.{modeNumber, withControl, withConfig, withTxBytes, withRxBytes}
+use Rattle.registers.specs.Registers.{firstControl, resetCore}
+use Rattle.registers.specs.Modes.{requested, settled}
+use Rattle.image.specs.Image.{imageSize, selectAt, modeOf, flightOf, flightNumber, requestNumber, decoded, controlOf, encoded, coreOf, Became, Acted, Answered}
+
+-- ---- the enums come back out of their bytes
+pub mode-back : (m : Mode) → modeOf (modeNumber m) ≡ m
+mode-back Normal = refl
+mode-back Sleep = refl
+mode-back Loopback = refl
+mode-back ListenOnly = refl
+mode-back Configuration = refl
+
+pub flight-back : (f : Flight) → flightOf (flightNumber f) ≡ f
+flight-back Idle = refl
+flight-back (Of Txb0) = refl
+flight-back (Of Txb1) = refl
+flight-back (Of Txb2) = refl
+
+pub request-back : (q : Request) → requested (requestNumber q) ≡ q
+request-back Nothing = refl
+request-back (Wanted Normal) = refl
+request-back (Wanted Sleep) = refl
+request-back (Wanted Loopback) = refl
+request-back (Wanted ListenOnly) = refl
+request-back (Wanted Configuration) = refl
+
+-- ---- the bytes by their index, after a change of one
+abbrev pub bytes : List ℕ → ℕ → ℕ
+bytes m i = getD m i 0
+
+abbrev pub changed : (ℕ → ℕ) → ℕ → ℕ → ℕ → ℕ
+changed b i v j = cond (eqb j i) v (b j)
+
+pub bytes-set : (m : List ℕ) (i v : ℕ) → i < length m → bytes (set m i v) ≡ changed (bytes m) i v
+bytes-set m i v h = fun-ext (λ j. go j (eqb j i) refl)
+  where
+    go : (j : ℕ) (b : Bool) → eqb j i ≡ b → getD (set m i v) j 0 ≡ cond (eqb j i) v (getD m j 0)
+    go j true e = let same : j ≡ i = eqb-true j i e in rw (e, same) (getD-set-same m i v 0 h)
+    go j false e = rw e (getD-set-other m i j v 0 (eqb-false j i e))
+
+-- a part that ends at or below the byte
+pub slice-above : (n k : ℕ) (m : List ℕ) (i v : ℕ) → n + k ≤ i → take k (drop n (set m i v)) ≡ take k (drop n m)
+slice-above n k m i v h =
+    let e : i ≡ n + (i - n) = omega arith in
+    let g : k ≤ i - n = omega arith in
+    rw (e, drop-set-add n m (i - n) v, take-set-le k (drop n m) (i - n) v g)
+
+-- ---- a byte below 128 is no control register
+low-control : (m : List ℕ) (i v : ℕ) → i < 128 → controlOf (set m i v) ≡ controlOf m
+unfolding decoded
+low-control m i v h =
+    simp (away 128 (λ e. omega arith), away 129 (λ e. omega arith), away 130 (λ e. omega arith), away 131 (λ e. omega arith), away 132 (λ e. omega arith), away 133 (λ e. omega arith), away 134 (λ e. omega arith), away 135 (λ e. omega arith), away 136 (λ e. omega arith), away 137 (λ e. omega arith), away 138 (λ e. omega arith), away 139 (λ e. omega arith), away 140 (λ e. omega arith), away 141 (λ e. omega arith), away 142 (λ e. omega arith))
+  where
+    away : (j : ℕ) → (j ≡ i → ⊥) → getD (set m i v) j 0 ≡ getD m j 0
+    away j n = getD-set-other m i j v 0 n
+
+module _ (m : List ℕ) (i v : ℕ) where
+  pub config-set : i < 48 → coreOf (set m i v) ≡ withConfig (coreOf m) (set (take 48 m) i v)
+  config-set h = rw (take-set-lt 48 m i v h, drop-set-lt 48 m i v h, drop-set-lt 96 m i v (omega arith), low-control m i v (omega arith))
+
+module _ (m : List ℕ) (j v : ℕ) where
+  pub tx-set : j < 48 → coreOf (set m (48 + j) v) ≡ withTxBytes (coreOf m) (set (take 48 (drop 48 m)) j v)
+  tx-set h =
+      rw (take-set-le 48 m (48 + j) v (omega arith), drop-set-add 48 m j v, take-set-lt 48 (drop 48 m) j v h, drop-set-lt 96 m (48 + j) v (omega arith), low-control m (48 + j) v (omega arith))
+
+  pub rx-set : j < 32 → coreOf (set m (96 + j) v) ≡ withRxBytes (coreOf m) (set (take 32 (drop 96 m)) j v)
+  rx-set h =
+      rw (take-set-le 48 m (96 + j) v (omega arith), slice-above 48 48 m (96 + j) v (omega arith), drop-set-add 96 m j v, take-set-lt 32 (drop 96 m) j v h, low-control m (96 + j) v (omega arith))
+
+-- ---- a byte from 128 on is none of config, tx and rx
+pub high-kept : (c : Control) (m : List ℕ) (i v : ℕ) → 128 ≤ i → withControl (coreOf (set m i v)) c ≡ withControl (coreOf m) c
+high-kept c m i v h = rw (take-set-le 48 m i v (omega arith), slice-above 48 48 m i v (omega arith), slice-above 96 32 m i v (omega arith))
+
+-- ---- several control registers changed in place: b are the bytes now, and the others are as in m
+pub record Marked (m n : List ℕ) (b : ℕ → ℕ) : Type 0 where
+  pub size : length n ≡ imageSize
+  pub regs : bytes n ≡ b
+  pub low : (c : Control) → withControl (coreOf n) c ≡ withControl (coreOf m) c
+  pub rest : drop selectAt n ≡ drop selectAt m
+
+pub unmarked : (m : List ℕ) → length m ≡ imageSize → Marked m m (bytes m)
+unmarked m e = record { size = e; regs = refl; low = λ c. refl; rest = refl }
+
+pub mark-one : {m n : List ℕ} {b : ℕ → ℕ} → Marked m n b → (j v : ℕ) → 128 ≤ j → j < selectAt → Marked m (set n j v) (changed b j v)
+mark-one {m} {n} {b} w j v p q =
+    record {
+      size = length-set n j v ∙ w .size;
+      regs = bytes-set n j v (omega (arith, w .size)) ∙ ap (λ (f : ℕ → ℕ). changed f j v) (w .regs);
+      low = λ c. high-kept c n j v p ∙ w .low c;
+      rest = drop-set-lt selectAt n j v q ∙ w .rest;
+    }
+
+pub marked : {m n : List ℕ} {b : ℕ → ℕ} → Marked m n b → (c : Control) → decoded b ≡ c → Became m n (withControl (coreOf m) c)
+marked {m} {n} {b} w c e =
+    record {
+      size = w .size;
+      core = ap (λ (d : Control). withControl (coreOf n) d) (ap decoded (w .regs) ∙ e) ∙ w .low c;
+      rest = w .rest;
+    }
+
+-- ---- a byte below 128 changed in place
+pub became-low : (m : List ℕ) (i v : ℕ) (k : Core) → length m ≡ imageSize → i < 128 → coreOf (set m i v) ≡ k → Became m (set m i v) k
+became-low m i v k e h p = record { size = length-set m i v ∙ e; core = p; rest = drop-set-lt selectAt m i v (omega arith) }
+
+-- ---- control registers put back: a run of stores
+pub sets-kept : {A : Type 0} (f : List ℕ → A) (n : ℕ) → ((m : List ℕ) (i v : ℕ) → n ≤ i → f (set m i v) ≡ f m) → (m : List ℕ) (i : ℕ) (vs : List ℕ) → n ≤ i → f (sets m i vs) ≡ f m
+sets-kept f n k m i [] h = refl
+sets-kept f n k m i (v ∷ vs) h = sets-kept f n k (set m i v) (suc i) vs (omega arith) ∙ k m i v h
+
+pub drop-sets : (m : List ℕ) (n i : ℕ) (vs : List ℕ) → drop n (sets m (n + i) vs) ≡ sets (drop n m) i vs
+drop-sets m n i [] = refl
+drop-sets m n i (v ∷ vs) = rw (← add-suc n i, ← drop-set-add n m i v) (drop-sets (set m (n + i) v) n (suc i) vs)
+
+pub drop-past : (m : List ℕ) (n i : ℕ) (vs : List ℕ) → i + length vs ≤ n → drop n (sets m i vs) ≡ drop n m
+drop-past m n i [] h = refl
+drop-past m n i (v ∷ vs) h = drop-past (set m i v) n (suc i) vs (omega arith) ∙ drop-set-lt n m i v (omega arith)
+
+-- the control registers by the bytes from 128 on
+from-there : (m : List ℕ) → controlOf m ≡ decoded (λ i. getD (drop 128 m) (i - 128) 0)
+unfolding decoded
+from-there m = simp getD-drop
+
+control-back : (c : Control) (rest : List ℕ) → decoded (λ i. getD (encoded c ++ rest) (i - 128) 0) ≡ c
+unfolding decoded encoded
+control-back c rest =
+    let tec : c .counters .tec % 256 + c .counters .tec / 256 * 256 ≡ c .counters .tec = omega arith in
+    simp (tec, mode-back, flight-back, request-back)
+
+room : (c : Control) → length (encoded c) ≡ 15
+unfolding encoded
+room c = refl
+
+pub put-core : (m : List ℕ) (c : Control) → length m ≡ imageSize → Became m (sets m 128 (encoded c)) (withControl (coreOf m) c)
+put-core m c e =
+    record {
+      size = length-sets m 128 (encoded c) ∙ e;
+      core =
+          ap (λ (d : Control). withControl (coreOf (sets m 128 (encoded c))) d) back
+          ∙ sets-kept (λ m. withControl (coreOf m) c) 128 (high-kept c) m 128 (encoded c) (omega arith);
+      rest = drop-past m selectAt 128 (encoded c) (omega (arith, room c));
+    }
+  where
+    back : controlOf (sets m 128 (encoded c)) ≡ c
+    back =
+        from-there (sets m 128 (encoded c))
+        ∙ rw (drop-sets m 128 0 (encoded c), sets-eq (encoded c) (drop 128 m) 0 (omega (arith, room c, length-drop 128 m))) (control-back c _)
+
+-- ---- one change after another: what the second does to the core that the first left
+pub followed : {m n p : List ℕ} {k : Core} (f : Core → Core) → Became m n k → Became n p (f (coreOf n)) → Became m p (f k)
+followed {m} {n} {p} {k} f x y = record { size = y .size; core = y .core ∙ ap f (x .core); rest = y .rest ∙ x .rest }
+
+-- ---- what a call on lent bytes promises, by the test of their length
+pub acted : {m n : List ℕ} {k : Core} → length m ≡ imageSize → Became m n k → Acted m n k
+acted e w = record { image = λ _. w; other = λ h. absurd (h e) }
+
+pub passed : {m : List ℕ} {k : Core} → (length m ≡ imageSize → ⊥) → Acted m m k
+passed h = record { image = λ e. absurd (h e); other = λ _. refl }
+
+pub answered : {A : Type 0} {m : List ℕ} {r a o : A} → length m ≡ imageSize → r ≡ a → Answered m r a o
+answered e p = record { image = λ _. p; other = λ h. absurd (h e) }
+
+pub unanswered : {A : Type 0} {m : List ℕ} {r a o : A} → (length m ≡ imageSize → ⊥) → r ≡ o → Answered m r a o
+unanswered h p = record { image = λ e. absurd (h e); other = λ _. p }
+
+-- ---- zeros from the start, one more
+pub length-zeros : (n : ℕ) → length {A = ℕ} (replicate n 0) ≡ n
+length-zeros zero = refl
+length-zeros (suc n) = ap suc (length-zeros n)
+
+zeros-snoc : (n : ℕ) (l : List ℕ) → replicate n 0 ++ (0 ∷ l) ≡ replicate (suc n) 0 ++ l
+zeros-snoc zero l = refl
+zeros-snoc (suc n) l = ap (λ (r : List ℕ). 0 ∷ r) (zeros-snoc n l)
+
+pub cleared-more : (m : List ℕ) (i : ℕ) → i < length m → set (replicate i 0 ++ drop i m) i 0 ≡ replicate (suc i) 0 ++ drop (suc i) m
+cleared-more m i h =
+    rw (drop-cons m i 0 h, set-at (replicate i 0) (getD m i 0) (drop (suc i) m) 0 i (length-zeros i)) (zeros-snoc i (drop (suc i) m))
+
+-- with the bytes of 00h to 7Fh cleared and the first control registers put in, the core is that of RESET
+pub reset-core : (m n p : List ℕ) (c : Control) → length m ≡ imageSize → n ≡ replicate 128 0 ++ drop 128 m → c ≡ firstControl
+    → Acted n p (withControl (coreOf n) c) → Became m p (resetCore (coreOf m))
+unfolding resetCore
+reset-core m n p c e q f w =
+    let z : List ℕ = replicate 128 0 ++ drop 128 m in
+    let long : length z ≡ imageSize = simp length-drop (omega arith) in
+    let b : Became n p (withControl (coreOf n) c) = w .image (ap length q ∙ long) in
+    record {
+      size = b .size;
+      core = b .core ∙ rw (q, f) refl;
+      rest = b .rest ∙ rw q (drop-drop 15 128 m);
+    }
+
+-- ---- a request for nothing is not carried out
+unrequested : (n : ℕ) → 7 ≤ n → requested n ≡ Nothing
+unrequested n h =
+    simp (ne-eqb n 0 (λ e. omega arith), ne-eqb n 1 (λ e. omega arith), ne-eqb n 2 (λ e. omega arith), ne-eqb n 3 (λ e. omega arith), ne-eqb n 4 (λ e. omega arith))
+
+settled-idle : (m : List ℕ) → 7 ≤ getD m 142 0 → settled (controlOf m) ≡ controlOf m
+unfolding settled decoded
+settled-idle m h = rw (unrequested (getD m 142 0) h)
+
+pub no-request : (m : List ℕ) → length m ≡ imageSize → 7 ≤ getD m 142 0 → Became m m (withControl (coreOf m) (settled (controlOf m)))
+no-request m e h = record { size = e; core = ap (λ (c : Control). withControl (coreOf m) c) (sym (settled-idle m h)); rest = refl }
+
+-- ---- the control registers taken out, passed through f and put back
+pub changed-by : {m n : List ℕ} {c d : Control} (f : Control → Control) → Answered m c (controlOf m) firstControl → d ≡ f c
+    → Acted m n (withControl (coreOf m) d) → Acted m n (withControl (coreOf m) (f (controlOf m)))
+changed-by {m} {n} f a p w =
+    record {
+      image = λ e. subst (λ (x : Control). Became m n (withControl (coreOf m) x)) (p ∙ ap f (a .image e)) (w .image e);
+      other = w .other;
+    }

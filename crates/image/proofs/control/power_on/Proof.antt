@@ -1,0 +1,32 @@
+use mathlib.Core.Path.{refl}
+use Rattle.registers.specs.Registers.{powerOnCore}
+use Rattle.image.specs.Image.{decoded}
+use borrow.Author.Needs.{needs}
+use Rattle.image.proofs.control.power_on.Statement.{statement}
+use Rattle.image.proofs.control.power_on.Tie as tie
+
+array-write-image : tie.Need-array-write-image
+array-write-image c = search needs
+
+array-write-image-2 : tie.Need-array-write-image-2
+array-write-image-2 c = search needs
+
+array-write-image-3 : tie.Need-array-write-image-3
+array-write-image-3 c = search needs
+
+array-write-image-4 : tie.Need-array-write-image-4
+array-write-image-4 c = search needs
+
+returns : tie.Need-returns
+unfolding powerOnCore decoded
+returns c = (refl, refl, refl)
+
+pub power-on-spec : {M : Type 1} → statement M
+power-on-spec =
+    tie.close
+    (tie.spec
+    array-write-image
+    array-write-image-2
+    array-write-image-3
+    array-write-image-4
+    returns)

@@ -1,0 +1,128 @@
+-- The chip as bytes at fixed places: 00h to 7Fh at their addresses, behind them the control registers, one to a byte and TEC in two, then
+-- the select line. Any bytes of this length stand for a core: a decoder has an answer for every byte.
+use Prim.Native.Nat.{ℕ, _+_, _*_, _/_, _%_}
+use mathlib.Core.Bool.{Bool, true, false, cond}
+use mathlib.Core.Path.{_≡_}
+use mathlib.Core.List.{List, [], _∷_}
+use lib.Dec.{eqb}
+use lib.ListN.{length, getD, take, drop}
+use Rattle.registers.specs.declared.Mode.{Mode}
+use Rattle.registers.specs.declared.Mode.the-variants.{Normal, Sleep, Loopback, ListenOnly, Configuration}
+use Rattle.registers.specs.declared.TxBuffer.the-variants.{Txb0, Txb1, Txb2}
+use Rattle.registers.specs.declared.Flight.{Flight}
+use Rattle.registers.specs.declared.Flight.the-variants.{Idle, Of}
+use Rattle.registers.specs.declared.Request.{Request}
+use Rattle.registers.specs.declared.Request.the-variants.{Nothing, Wanted}
+use Rattle.registers.specs.declared.Control.{Control}
+use Rattle.registers.specs.declared.Core.{Core}
+use Rattle.registers.specs.declared.Region.{Region}
+use Rattle.registers.specs.declared.Region.the-variants.{Profile, Configured, Bfpctrl, Tec, Rec, Caninte, Canintf, Eflg, Canstat, Canctrl, TxCtrl, TxMessage, RxCtrl, RxMessage}
+use Rattle.registers.specs.State.{modeNumber, txNumber, rxFlag}
+use Rattle.registers.specs.Registers.{regionOf}
+use Rattle.registers.specs.Modes.{requested}
+
+-- the bytes of an image; those past the select line are spare
+abbrev pub imageSize : ℕ
+imageSize = 152
+
+-- where the select line lies, with the open instruction, its address and its mask
+abbrev pub selectAt : ℕ
+selectAt = 143
+
+-- ---- the enums in a byte: modes by their number, a flight by its buffer or 3, a request by its mode or 7; each larger byte means the last
+abbrev pub modeOf : ℕ → Mode
+modeOf n =
+    cond (eqb n 0) Normal
+    (cond (eqb n 1) Sleep
+    (cond (eqb n 2) Loopback
+    (cond (eqb n 3) ListenOnly Configuration)))
+
+abbrev pub flightOf : ℕ → Flight
+flightOf n = cond (eqb n 0) (Of Txb0) (cond (eqb n 1) (Of Txb1) (cond (eqb n 2) (Of Txb2) Idle))
+
+abbrev pub flightNumber : Flight → ℕ
+flightNumber Idle = 3
+flightNumber (Of b) = txNumber b
+
+abbrev pub requestNumber : Request → ℕ
+requestNumber Nothing = 7
+requestNumber (Wanted m) = modeNumber m
+
+-- ---- the control registers that the bytes from 128 on stand for, b i being byte i
+unfoldable pub decoded : (ℕ → ℕ) → Control
+decoded b =
+    record {
+      flags = record { canctrl = b 128; caninte = b 129; canintf = b 130; eflg = b 131 };
+      tx = record { txb0 = b 132; txb1 = b 133; txb2 = b 134 };
+      rx = record { rxb0 = b 135; rxb1 = b 136 };
+      counters = record { tec = b 137 + b 139 * 256; rec = b 138 };
+      state = record { mode = modeOf (b 140); flight = flightOf (b 141); request = requested (b 142) };
+    }
+
+abbrev pub controlOf : List ℕ → Control
+controlOf m = decoded (λ i. getD m i 0)
+
+-- the bytes of control registers, in the same order
+unfoldable pub encoded : Control → List ℕ
+encoded c =
+    c .flags .canctrl ∷ c .flags .caninte ∷ c .flags .canintf ∷ c .flags .eflg
+    ∷ c .tx .txb0 ∷ c .tx .txb1 ∷ c .tx .txb2
+    ∷ c .rx .rxb0 ∷ c .rx .rxb1
+    ∷ c .counters .tec % 256 ∷ c .counters .rec ∷ c .counters .tec / 256
+    ∷ modeNumber (c .state .mode) ∷ flightNumber (c .state .flight) ∷ requestNumber (c .state .request) ∷ []
+
+-- ---- the core that an image stands for
+abbrev pub coreOf : List ℕ → Core
+coreOf m = record { control = controlOf m; config = take 48 m; tx = take 48 (drop 48 m); rx = take 32 (drop 96 m) }
+
+-- ---- where the byte of an address lies; CANSTAT, EFLG and TEC have none that is read as it stands
+abbrev pub isDerived : Region → Bool
+isDerived Profile = false
+isDerived Configured = false
+isDerived Bfpctrl = false
+isDerived Tec = true
+isDerived Rec = false
+isDerived Caninte = false
+isDerived Canintf = false
+isDerived Eflg = true
+isDerived Canstat = true
+isDerived Canctrl = false
+isDerived (TxCtrl b) = false
+isDerived (TxMessage b) = false
+isDerived (RxCtrl b) = false
+isDerived RxMessage = false
+
+abbrev pub placeIn : Region → ℕ → ℕ
+placeIn Profile a = a
+placeIn Configured a = a
+placeIn Bfpctrl a = a
+placeIn Tec a = 137
+placeIn Rec a = 138
+placeIn Caninte a = 129
+placeIn Canintf a = 130
+placeIn Eflg a = 131
+placeIn Canstat a = a
+placeIn Canctrl a = 128
+placeIn (TxCtrl b) a = 132 + txNumber b
+placeIn (TxMessage b) a = a
+placeIn (RxCtrl b) a = 135 + rxFlag b
+placeIn RxMessage a = a
+
+unfoldable pub placeOf : ℕ → ℕ
+placeOf a = placeIn (regionOf (a % 128)) (a % 128)
+
+-- ---- an image m changed into n: n stands for the core k, and from the select line on no byte differs
+pub record Became (m n : List ℕ) (k : Core) : Type 0 where
+  pub size : length n ≡ imageSize
+  pub core : coreOf n ≡ k
+  pub rest : drop selectAt n ≡ drop selectAt m
+
+-- what a call does to bytes that it is lent: an image stands for k afterwards; bytes of any other length are no image and stay
+pub record Acted (m n : List ℕ) (k : Core) : Type 0 where
+  pub image : length m ≡ imageSize → Became m n k
+  pub other : (length m ≡ imageSize → ⊥) → n ≡ m
+
+-- what a call answers that is lent bytes: a for an image, o for any other bytes
+pub record Answered {A : Type 0} (m : List ℕ) (r a o : A) : Type 0 where
+  pub image : length m ≡ imageSize → r ≡ a
+  pub other : (length m ≡ imageSize → ⊥) → r ≡ o

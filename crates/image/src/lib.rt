@@ -1,0 +1,58 @@
+// The chip as bytes at fixed places. A caller lends them, and the rules change them where they lie.
+mod addresses;
+mod control;
+
+pub use addresses::hold;
+pub use addresses::place_of;
+pub use addresses::read;
+pub use control::control_of;
+pub use control::flight_of;
+pub use control::mode_of;
+pub use control::power_on;
+pub use control::put_control;
+pub use control::reset;
+pub use control::settle;
+
+pub const SIZE: usize = 152;
+
+// The bytes of 00h to 7Fh lie at their addresses. Behind them the control registers.
+pub const CANCTRL: usize = 128;
+
+pub const CANINTE: usize = 129;
+
+pub const CANINTF: usize = 130;
+
+// RX1OVR and RX0OVR; the other bits follow from the counters.
+pub const EFLG: usize = 131;
+
+pub const TXB0CTRL: usize = 132;
+
+pub const TXB1CTRL: usize = 133;
+
+pub const TXB2CTRL: usize = 134;
+
+pub const RXB0CTRL: usize = 135;
+
+pub const RXB1CTRL: usize = 136;
+
+pub const TEC: usize = 137;
+
+pub const REC: usize = 138;
+
+// The upper byte of TEC: 0 but in bus-off.
+pub const TEC_HIGH: usize = 139;
+
+pub const MODE: usize = 140;
+
+// The buffer in flight, or 3.
+pub const FLIGHT: usize = 141;
+
+// The mode wanted, or 7.
+pub const REQUEST: usize = 142;
+
+// The select line with the open instruction, its address and its mask. The bytes behind them are spare.
+pub const SELECT: usize = 143;
+
+pub const ADDRESS: usize = 144;
+
+pub const MASK: usize = 145;

@@ -1,0 +1,141 @@
+-- The two sides of a step by the number of the kind, and a step of the image as a step of the chip that it stands for. Assumes nothing.
+use mathlib.Core.Bool.{Bool, true, false, cond, not}
+use mathlib.Core.List.{List}
+use mathlib.Core.Path.{_≡_, refl, ap, sym, subst, _∙_}
+use Prim.Native.Nat.{ℕ, zero, suc, _<_, _≤_}
+use native.Mathlib.Omega.{arith}
+use lib.Dec.{eqb}
+use lib.ListN.{length, drop}
+use lib.Seq.{drop-drop}
+use borrow.Author.Tests.{ne-eqb}
+use Rattle.records.specs.declared.Kind.{Kind}
+use Rattle.records.specs.declared.Kind.the-variants.{SelectLow, Exchange, SelectHigh, FrameHeard, BusIdle, FrameEnds, ReceiveError, Recovery, Unknown}
+use Rattle.records.specs.declared.Fields.{Fields}
+use Rattle.records.specs.declared.Outcome.{Outcome}
+use Rattle.records.specs.Records.{refusedField, byteAt, kindBy, kindOf, isEvent, soundPlain, soundOf, recordOf}
+use Rattle.registers.specs.declared.Core.{Core}
+use Rattle.image.specs.Image.{imageSize, coreOf, Became}
+use Rattle.controller.specs.Events.{eventRefusal, eventOf, outcomeTold}
+use Rattle.spi.specs.declared.Act.{Act}
+use Rattle.spi.specs.declared.Act.the-variants.{Refuse}
+use Rattle.spi.specs.declared.Select.{Select}
+use Rattle.spi.specs.declared.Select.the-variants.{Raised, Lowered}
+use Rattle.spi.specs.Instructions.{refusalOf, replyTo, acted}
+use Rattle.spi.specs.Open.{selectOf, Turned}
+use Rattle.spi.proofs.Turns.{select-kept, became-lined, turned-by}
+use Rattle.mcp2515.specs.declared.Chip.{Chip}
+use Rattle.mcp2515.specs.declared.Stepped.{Stepped}
+use Rattle.mcp2515.specs.Step.{askedBy, asked, turnedBy, turned, spiStep, eventStep, stepOf, outcome, nextChip}
+use Rattle.mcp2515.specs.ChipImage.{chipOf, Packed, Moved, actOutcome}
+use Rattle.mcp2515.proofs.Plain.{asked-plain, turned-plain}
+
+-- ---- kinds 0 to 2
+no-event : (n : ℕ) → n < 3 → isEvent (kindBy n) ≡ false
+no-event zero h = refl
+no-event (suc zero) h = refl
+no-event (suc (suc zero)) h = refl
+no-event (suc (suc (suc n))) h = absurd (omega arith)
+
+pub spi-side : (c : Chip) (f : Fields) → f .kind < 3 → stepOf c (recordOf f) ≡ spiStep c (recordOf f)
+unfolding stepOf kindOf recordOf
+spi-side c f h = rw (no-event (f .kind) h)
+
+-- ---- kinds from 3 on, also those that are unknown: what refusal 2 names changes nothing on either side
+unknown-side : (c : Chip) (r : List ℕ) → kindOf r ≡ Unknown → stepOf c r ≡ eventStep c r
+unfolding stepOf asked turned soundOf eventOf eventRefusal
+unknown-side c r e = rw e
+
+beyond : (c : Chip) (r : List ℕ) (n : ℕ) → kindOf r ≡ kindBy n → 3 ≤ n → stepOf c r ≡ eventStep c r
+unfolding stepOf
+beyond c r zero e h = absurd (omega arith)
+beyond c r (suc zero) e h = absurd (omega arith)
+beyond c r (suc (suc zero)) e h = absurd (omega arith)
+beyond c r (suc (suc (suc zero))) e h = rw e
+beyond c r (suc (suc (suc (suc zero)))) e h = rw e
+beyond c r (suc (suc (suc (suc (suc zero))))) e h = rw e
+beyond c r (suc (suc (suc (suc (suc (suc zero)))))) e h = rw e
+beyond c r (suc (suc (suc (suc (suc (suc (suc zero))))))) e h = rw e
+beyond c r (suc (suc (suc (suc (suc (suc (suc (suc n)))))))) e h = unknown-side c r (e ∙ simp (apart 0 (omega arith), apart 1 (omega arith), apart 2 (omega arith), apart 3 (omega arith), apart 4 (omega arith), apart 5 (omega arith), apart 6 (omega arith), apart 7 (omega arith)))
+  where
+    apart : (k : ℕ) → k < 8 → eqb (suc (suc (suc (suc (suc (suc (suc (suc n)))))))) k ≡ false
+    apart k p = ne-eqb (suc (suc (suc (suc (suc (suc (suc (suc n)))))))) k (λ e. omega arith)
+
+kind-of : (f : Fields) → kindOf (recordOf f) ≡ kindBy (f .kind)
+unfolding kindOf recordOf
+kind-of f = refl
+
+pub event-side : (c : Chip) (f : Fields) → 3 ≤ f .kind → stepOf c (recordOf f) ≡ eventStep c (recordOf f)
+event-side c f h = beyond c (recordOf f) (f .kind) (kind-of f) h
+
+-- ---- an image changed by the SPI side, or by a bus event, is a chip moved
+pub turned-moved : {m n : List ℕ} {k : Core} {s : Select} → Turned m n k s → Moved m n (record { core = k; select = s })
+turned-moved t = record { packed = record { size = t .size; chip = rw (t .core, t .select) }; spare = t .rest }
+
+pub became-moved : {m n : List ℕ} {k : Core} → Became m n k → Moved m n (record { core = k; select = selectOf m })
+became-moved w = turned-moved (turned-by (became-lined w))
+
+-- ---- a record of kind 0 to 2 by its number, where refusal 2 does not name it and where it does
+abbrev stepBy : Kind → Chip → ℕ → Stepped
+stepBy g c b =
+    record {
+      refusal = refusalOf (askedBy g (c .select) b);
+      answer = replyTo (askedBy g (c .select) b) (c .core);
+      chip = record { core = acted (askedBy g (c .select) b) (c .core); select = turnedBy g (c .select) b };
+    }
+
+abbrev Sound : Fields → Bool → Type 0
+Sound f b = soundPlain (kindBy (f .kind)) (recordOf f) ≡ b
+
+asked-here : (s : Select) (f : Fields) → asked s (recordOf f) ≡ cond (soundPlain (kindBy (f .kind)) (recordOf f)) (askedBy (kindBy (f .kind)) s (f .field)) (Refuse refusedField)
+unfolding kindOf recordOf
+asked-here s f = sym (asked-plain s (recordOf f))
+
+turned-here : (s : Select) (f : Fields) → turned s (recordOf f) ≡ cond (soundPlain (kindBy (f .kind)) (recordOf f)) (turnedBy (kindBy (f .kind)) s (f .field)) s
+unfolding kindOf recordOf
+turned-here s f = sym (turned-plain s (recordOf f))
+
+pub unsound-step : (c : Chip) (f : Fields) → f .kind < 3 → Sound f false → stepOf c (recordOf f) ≡ record { refusal = refusedField; answer = 0; chip = c }
+unsound-step c f h e = spi-side c f h ∙ rw (asked-here (c .select) f, turned-here (c .select) f, e)
+
+sound-step : (c : Chip) (f : Fields) → f .kind < 3 → Sound f true → stepOf c (recordOf f) ≡ stepBy (kindBy (f .kind)) c (f .field)
+sound-step c f h e = spi-side c f h ∙ rw (asked-here (c .select) f, turned-here (c .select) f, e)
+
+low-any : (c : Chip) (b : ℕ) → stepBy SelectLow c b ≡ stepBy SelectLow c 0
+low-any c b = go (c .select)
+  where
+    go : (s : Select) → stepBy SelectLow (record { core = c .core; select = s }) b ≡ stepBy SelectLow (record { core = c .core; select = s }) 0
+    go Raised = refl
+    go (Lowered i) = refl
+
+high-any : (c : Chip) (b : ℕ) → stepBy SelectHigh c b ≡ stepBy SelectHigh c 0
+high-any c b = go (c .select)
+  where
+    go : (s : Select) → stepBy SelectHigh (record { core = c .core; select = s }) b ≡ stepBy SelectHigh (record { core = c .core; select = s }) 0
+    go Raised = refl
+    go (Lowered i) = refl
+
+module _ (c : Chip) (f : Fields) (e : Sound f true) where
+  pub low-step : f .kind ≡ 0 → stepOf c (recordOf f) ≡ stepBy SelectLow c 0
+  low-step n = sound-step c f (omega arith) e ∙ ap (λ (k : ℕ). stepBy (kindBy k) c (f .field)) n ∙ low-any c (f .field)
+
+  pub exchange-step : f .kind ≡ 1 → stepOf c (recordOf f) ≡ stepBy Exchange c (f .field)
+  exchange-step n = sound-step c f (omega arith) e ∙ ap (λ (k : ℕ). stepBy (kindBy k) c (f .field)) n
+
+  pub high-step : f .kind ≡ 2 → stepOf c (recordOf f) ≡ stepBy SelectHigh c 0
+  high-step n = sound-step c f (omega arith) e ∙ ap (λ (k : ℕ). stepBy (kindBy k) c (f .field)) n ∙ high-any c (f .field)
+
+-- a test that the code asks the other way round
+pub unless : (b : Bool) → not b ≡ true → b ≡ false
+unless true e = sym e
+unless false e = refl
+
+pub provided : (b : Bool) → not b ≡ false → b ≡ true
+provided true e = refl
+provided false e = sym e
+
+-- ---- what a step is known to be says what it tells and where it leads
+pub told-as : (c : Chip) (r : List ℕ) {s : Stepped} {o : Outcome} → stepOf c r ≡ s → o ≡ record { refusal = s .refusal; answer = s .answer } → o ≡ outcome c r
+told-as c r e p = p ∙ ap (λ (x : Stepped). record { refusal = x .refusal; answer = x .answer }) (sym e)
+
+pub moved-as : {m n : List ℕ} (c : Chip) (r : List ℕ) {s : Stepped} → stepOf c r ≡ s → Moved m n (s .chip) → Moved m n (nextChip c r)
+moved-as {m} {n} c r e w = subst (λ (x : Stepped). Moved m n (x .chip)) (sym e) w

@@ -1,0 +1,40 @@
+use mathlib.Core.Path.{_≡_, refl, sym, ap, _∙_}
+use borrow.Author.Tests.{ne-eqb}
+use Rattle.spi.specs.Open.{openOf}
+use Rattle.spi.proofs.Turns.{stayed, open-of, exchange-taken, high-told}
+use borrow.Author.Needs.{needs}
+use Rattle.mcp2515.proofs.steps.step_low.Statement.{statement}
+use Rattle.mcp2515.proofs.steps.step_low.Tie as tie
+
+slice-read-if1 : tie.Need-slice-read-if1
+slice-read-if1 c = search needs
+
+open-requires : tie.Need-open-requires
+open-requires c κs = search needs
+
+accept-requires : tie.Need-accept-requires
+accept-requires c κs = search needs
+
+same-length : tie.Need-same-length
+same-length c = search needs
+
+returns : tie.Need-returns
+returns c = rw (c .before .before .before .before .before .if1 .taken) (c .accept .ensures, c .before .before .before .«open» .ensures .image (c .before .before .before .before .before .before .before .before .pre))
+
+refuse-requires : tie.Need-refuse-requires
+refuse-requires c κs = search needs
+
+returns-2 : tie.Need-returns-2
+returns-2 c = rw (ne-eqb _ 0 (c .before .if1 .left)) (c .refuse .ensures, stayed (c .before .before .before .before .args .image .now) (openOf (c .before .before .before .before .args .image .now)) (c .before .before .before .before .pre) (c .before .if1 .left) refl)
+
+pub step-low-spec : {M : Type 1} → statement M
+step-low-spec =
+    tie.close
+    (tie.spec
+    slice-read-if1
+    open-requires
+    accept-requires
+    same-length
+    returns
+    refuse-requires
+    returns-2)
