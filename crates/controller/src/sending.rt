@@ -9,13 +9,11 @@ ghost use Rattle.registers.specs.State.{OSM, isNormal, txFlag, withFlight, with
 ghost use Rattle.registers.specs.Modes.{waits};
 ghost use Rattle.registers.specs.State.{abortsAll};
 ghost use Rattle.controller.specs.Sending.{
-  choiceNumber,
   rankOf,
   bestBy,
   bestOf,
   maySend,
   choiceOf,
-  started,
   endOf,
   counted,
   afterFailure,
@@ -48,15 +46,6 @@ use registers::TxControl;
 const EXIDE: u8 = 8;
 
 const RTR: u8 = 64;
-
-pub fn choice_number(choice: Choice) -> u8
-    ensures { λ r. ⌜ r ≡ choiceNumber choice ⌝ }
-{
-    match choice {
-        Choice::Send(buffer) => registers::tx_number(buffer),
-        Choice::Nobody => 3,
-    }
-}
 
 fn rank(ctrl: u8) -> u8
     ensures { λ r. ⌜ r ≡ rankOf ctrl ⌝ }
@@ -136,15 +125,6 @@ fn with_flight(control: Control, flight: Flight) -> Control
     let mut next = control;
     next.state = changed;
     next
-}
-
-pub fn start(choice: Choice, control: Control) -> Control
-    ensures { λ r. ⌜ r ≡ started choice control ⌝ }
-{
-    match choice {
-        Choice::Send(buffer) => with_flight(control, Flight::Of(buffer)),
-        Choice::Nobody => control,
-    }
 }
 
 pub fn end_of(number: u8) -> End

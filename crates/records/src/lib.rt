@@ -4,7 +4,6 @@ ghost use mathlib.Core.List.{[], _∷_};
 ghost use Prim.Native.Nat.{_+_, _*_, _/_, _%_, _<_, _^_, _-_, min};
 ghost use Rattle.records.specs.Records.{
   kindBy,
-  isEvent,
   zeros,
   frameOf,
   carried,
@@ -79,22 +78,6 @@ pub fn kind_by(number: u8) -> Kind
         6 => Kind::ReceiveError,
         7 => Kind::Recovery,
         _ => Kind::Unknown,
-    }
-}
-
-pub fn is_event(kind: Kind) -> bool
-    ensures { λ r. ⌜ r ≡ isEvent kind ⌝ }
-{
-    match kind {
-        Kind::SelectLow => false,
-        Kind::Exchange => false,
-        Kind::SelectHigh => false,
-        Kind::FrameHeard => true,
-        Kind::BusIdle => true,
-        Kind::FrameEnds => true,
-        Kind::ReceiveError => true,
-        Kind::Recovery => true,
-        Kind::Unknown => false,
     }
 }
 

@@ -10,7 +10,6 @@ ghost use Rattle.registers.specs.Errors.{
   movedTo,
   tecLess,
   tecMore,
-  recLess,
   recMore,
   noErrors,
 };
@@ -93,6 +92,7 @@ pub fn tec_more(counters: Counters) -> Counters
     next
 }
 
+// REC after a good frame.
 pub fn heard_rec(rec: u8) -> u8
     ensures { λ x. ⌜ x ≡ cond (ltb 127 rec) 127 (rec - 1) ⌝ }
 {
@@ -103,16 +103,6 @@ pub fn heard_rec(rec: u8) -> u8
     } else {
         rec - 1
     }
-}
-
-// A good frame was heard.
-pub fn rec_less(counters: Counters) -> Counters
-    ensures { λ r. ⌜ r ≡ recLess counters ⌝ }
-{
-    let mut next = counters;
-    let rec = counters.rec;
-    next.rec = heard_rec(rec);
-    next
 }
 
 fn capped_rec(rec: u8, by: u8) -> u8

@@ -15,7 +15,6 @@ ghost use Rattle.registers.specs.Registers.{
   interruptCode,
   canstatOf,
   rxControl,
-  isProfile,
 };
 use crate::Control;
 use crate::ERRIF;
@@ -232,25 +231,4 @@ pub fn capped(tec: u16) -> u8
     ensures { λ r. ⌜ r ≡ min tec 255 ⌝ }
 {
     if 255 <= tec { 255 } else { tec as u8 }
-}
-
-pub fn is_profile(region: Region) -> bool
-    ensures { λ r. ⌜ r ≡ isProfile region ⌝ }
-{
-    match region {
-        Region::Profile => true,
-        Region::Configured => false,
-        Region::Bfpctrl => false,
-        Region::Tec => false,
-        Region::Rec => false,
-        Region::Caninte => false,
-        Region::Canintf => false,
-        Region::Eflg => false,
-        Region::Canstat => false,
-        Region::Canctrl => false,
-        Region::TxCtrl(_) => false,
-        Region::TxMessage(_) => false,
-        Region::RxCtrl(_) => false,
-        Region::RxMessage => false,
-    }
 }
