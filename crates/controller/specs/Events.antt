@@ -19,7 +19,6 @@ use Rattle.registers.specs.declared.Core.{Core}
 use Rattle.registers.specs.State.{WAKIF, MERRF, isNormal, isLoopback, isIdle, withCounters, withCanintf, withControl}
 use Rattle.registers.specs.Errors.{isBusOff, movedTo, recLess, recMore, noErrors}
 use Rattle.registers.specs.Modes.{entered, settled}
-use Rattle.receiving.specs.declared.Reception.{Reception}
 use Rattle.receiving.specs.declared.Reception.the-variants.{NotListening, Woke}
 use Rattle.receiving.specs.Receiving.{receptionNumber, Received, receivedOf}
 use Rattle.controller.specs.declared.End.{End}

@@ -1,11 +1,11 @@
 -- Where the bytes of each region lie, and what they hold. Assumes nothing.
-use mathlib.Core.Path.{_≡_, refl, ap, sym, _∙_}
+use mathlib.Core.Path.{_≡_, refl, ap, _∙_}
 use mathlib.Core.Bool.{Bool, true, false, cond, not, _&&_, _||_}
 use mathlib.Core.List.{List}
 use Prim.Native.Nat.{ℕ, _+_, _/_, _%_, _<_}
 use native.Mathlib.Omega.{arith}
 use lib.Dec.{T, eqb, ltb, eqb→eq, ltb→lt}
-use lib.ListN.{length, getD, set, take, drop}
+use lib.ListN.{getD, take, drop}
 use lib.Seq.{getD-take, getD-drop}
 use borrow.Author.Tests.{ne-eqb}
 use Rattle.bits.proofs.All.{every, agree, and-left, and-right}
@@ -13,9 +13,8 @@ use Rattle.registers.specs.declared.Region.{Region}
 use Rattle.registers.specs.declared.Region.the-variants.{Profile, Configured, Bfpctrl, Tec, Rec, Caninte, Canintf, Eflg, Canstat, Canctrl, TxCtrl, TxMessage, RxCtrl, RxMessage}
 use Rattle.registers.specs.declared.TxBuffer.the-variants.{Txb0, Txb1, Txb2}
 use Rattle.registers.specs.declared.RxBuffer.the-variants.{Rxb0, Rxb1}
-use Rattle.registers.specs.declared.Core.{Core}
 use Rattle.registers.specs.Registers.{regionOf, holdsIn}
-use Rattle.image.specs.Image.{decoded, controlOf, coreOf, isDerived, placeIn}
+use Rattle.image.specs.Image.{decoded, coreOf, isDerived, placeIn}
 
 -- ---- a test that is the same as another at every address, since it is so at each of the 128
 abbrev pub sameBool : Bool → Bool → Bool

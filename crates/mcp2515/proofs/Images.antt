@@ -1,10 +1,10 @@
 -- A chip by value and its image. Assumes nothing.
 use mathlib.Core.List.{List, [], _∷_, _++_}
-use mathlib.Core.Path.{_≡_, refl, ap, sym, _∙_}
+use mathlib.Core.Path.{_≡_, ap, sym, _∙_}
 use Prim.Native.Nat.{ℕ, suc, _+_, _<_, _≤_}
 use native.Mathlib.Omega.{arith}
-use lib.ListN.{length, getD, set, take, drop, replicate, length-set, length-drop}
-use lib.Seq.{sets, sets-eq, length-sets, take-at, take-suc, take-suc-set, take-set-le, getD-drop}
+use lib.ListN.{length, getD, set, take, drop, replicate, length-drop}
+use lib.Seq.{sets, sets-eq, length-sets, take-at, take-suc, take-suc-set, getD-drop}
 use Rattle.records.specs.declared.Fields.{Fields}
 use Rattle.records.specs.declared.Outcome.{Outcome}
 use Rattle.records.specs.Records.{recordOf}

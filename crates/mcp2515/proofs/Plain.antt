@@ -6,7 +6,6 @@ use Prim.Native.Nat.{ℕ}
 use Rattle.records.specs.declared.Kind.{Kind}
 use Rattle.records.specs.declared.Kind.the-variants.{SelectLow, Exchange, SelectHigh, FrameHeard, BusIdle, FrameEnds, ReceiveError, Recovery, Unknown}
 use Rattle.records.specs.Records.{refusedField, byteAt, kindOf, soundPlain, soundBy, soundOf}
-use Rattle.spi.specs.declared.Act.{Act}
 use Rattle.spi.specs.declared.Act.the-variants.{Refuse}
 use Rattle.spi.specs.declared.Select.{Select}
 use Rattle.mcp2515.specs.Step.{askedBy, asked, turnedBy, turned}

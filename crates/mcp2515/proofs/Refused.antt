@@ -9,57 +9,13 @@ use Rattle.records.specs.declared.Kind.the-variants.{SelectLow, Exchange, Selec
 use Rattle.records.specs.Records.{byteAt, kindOf, isEvent, soundOf}
 use Rattle.registers.specs.declared.Core.{Core}
 use Rattle.controller.specs.Events.{eventRefusal, eventOf}
-use Rattle.spi.specs.declared.Command.{Command}
-use Rattle.spi.specs.declared.Command.the-variants.{Reset, Read, Write, BitModify, ReadRxBuffer, LoadTxBuffer, Rts, ReadStatus, RxStatus, UnknownCode}
-use Rattle.spi.specs.declared.Instruction.{Instruction}
-use Rattle.spi.specs.declared.Instruction.the-variants.{First, ReadAddress, Reading, WriteAddress, Writing, ModifyAddress, ModifyMask, ModifyData, ReadingBuffer, StatusReply, RxStatusReply, Done}
 use Rattle.spi.specs.declared.Act.{Act}
-use Rattle.spi.specs.Instructions.{commandOf, firstAct, exchangeAct, highAct, replyTo, acted, refusalOf}
+use Rattle.spi.specs.Instructions.{replyTo, acted, refusalOf}
+use Rattle.spi.proofs.Turns.{exchange-accepted, high-told}
 use Rattle.mcp2515.specs.declared.Chip.{Chip}
 use Rattle.spi.specs.declared.Select.{Select}
 use Rattle.spi.specs.declared.Select.the-variants.{Raised, Lowered}
 use Rattle.mcp2515.specs.Step.{askedBy, asked, turnedBy, turned, stepOf}
-
-first-accepted : (m : Command) → refusalOf (firstAct m) ≡ 0
-first-accepted Reset = refl
-first-accepted Read = refl
-first-accepted Write = refl
-first-accepted BitModify = refl
-first-accepted (ReadRxBuffer b a) = refl
-first-accepted (LoadTxBuffer b a) = refl
-first-accepted (Rts m) = refl
-first-accepted ReadStatus = refl
-first-accepted RxStatus = refl
-first-accepted UnknownCode = refl
-
--- No exchange and no select high of an open session is refused.
-pub exchange-accepted : (i : Instruction) (b : ℕ) → refusalOf (exchangeAct i b) ≡ 0
-exchange-accepted First b = first-accepted (commandOf b)
-exchange-accepted ReadAddress b = refl
-exchange-accepted (Reading a) b = refl
-exchange-accepted WriteAddress b = refl
-exchange-accepted (Writing a) b = refl
-exchange-accepted ModifyAddress b = refl
-exchange-accepted (ModifyMask a) b = refl
-exchange-accepted (ModifyData a m) b = refl
-exchange-accepted (ReadingBuffer n a) b = refl
-exchange-accepted StatusReply b = refl
-exchange-accepted RxStatusReply b = refl
-exchange-accepted Done b = refl
-
-pub high-accepted : (i : Instruction) → refusalOf (highAct i) ≡ 0
-high-accepted First = refl
-high-accepted ReadAddress = refl
-high-accepted (Reading a) = refl
-high-accepted WriteAddress = refl
-high-accepted (Writing a) = refl
-high-accepted ModifyAddress = refl
-high-accepted (ModifyMask a) = refl
-high-accepted (ModifyData a m) = refl
-high-accepted (ReadingBuffer n a) = refl
-high-accepted StatusReply = refl
-high-accepted RxStatusReply = refl
-high-accepted Done = refl
 
 -- An act that was refused, and the select after it.
 record Unmoved (x : Act) (s t : Select) (k : Core) : Type 0 where
@@ -73,7 +29,7 @@ unmoved-by SelectLow (Lowered i) b k h = record { answers-0 = refl; core-kept = 
 unmoved-by Exchange Raised b k h = record { answers-0 = refl; core-kept = refl; select-kept = refl }
 unmoved-by Exchange (Lowered i) b k h = absurd (h (exchange-accepted i b))
 unmoved-by SelectHigh Raised b k h = record { answers-0 = refl; core-kept = refl; select-kept = refl }
-unmoved-by SelectHigh (Lowered i) b k h = absurd (h (high-accepted i))
+unmoved-by SelectHigh (Lowered i) b k h = absurd (h (high-told i k .0))
 unmoved-by FrameHeard s b k h = record { answers-0 = refl; core-kept = refl; select-kept = refl }
 unmoved-by BusIdle s b k h = record { answers-0 = refl; core-kept = refl; select-kept = refl }
 unmoved-by FrameEnds s b k h = record { answers-0 = refl; core-kept = refl; select-kept = refl }

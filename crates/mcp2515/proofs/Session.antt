@@ -30,7 +30,7 @@ use Rattle.records.specs.declared.Outcome.{Outcome}
 use Rattle.mcp2515.specs.Step.{powerOn, askedBy, asked, turnedBy, turned, spiStep, eventStep, stepOf, nextChip, outcome}
 use Rattle.mcp2515.specs.Moments.{Role, event, low, exchange, high, other, acceptedRole, roleOf, bytesFrom, most, momentOf, isFree, allowed, Demand3For}
 use Rattle.mcp2515.proofs.CoreFacts.{Good, rxBase, txBase, RxByte, TxByte, CoreFacts}
-use Rattle.mcp2515.proofs.Refused.{exchange-accepted, high-accepted}
+use Rattle.spi.proofs.Turns.{exchange-accepted, high-told}
 use Rattle.mcp2515.proofs.Swap.{Stage, fresh, sofar, isOther, Event, roleAt, named, Swap, Laws, demand-3-by}
 
 clash : {A : Type 0} → true ≡ false → A
@@ -321,7 +321,7 @@ other-step k i r h = go (kindOf r) refl (soundOf r) refl
     go SelectLow e false s = refused (rw e) 2 (rw s) (rw s)
     go Exchange e true s = clash (sym (rw e at (taken (rw e) (rw (s, e) (exchange-accepted i (byteAt r 1))))))
     go Exchange e false s = refused (rw e) 2 (rw s) (rw s)
-    go SelectHigh e true s = clash (sym (rw e at (taken (rw e) (rw (s, e) (high-accepted i)))))
+    go SelectHigh e true s = clash (sym (rw e at (taken (rw e) (rw (s, e) (high-told i k .0)))))
     go SelectHigh e false s = refused (rw e) 2 (rw s) (rw s)
     go FrameHeard e b s = clash (sym (rw e at h))
     go BusIdle e b s = clash (sym (rw e at h))

@@ -5,28 +5,25 @@ use mathlib.Core.Path.{_≡_, refl, ap, sym, subst, _∙_}
 use Prim.Native.Nat.{ℕ, zero, suc, _<_, _≤_}
 use native.Mathlib.Omega.{arith}
 use lib.Dec.{eqb}
-use lib.ListN.{length, drop}
-use lib.Seq.{drop-drop}
 use borrow.Author.Tests.{ne-eqb}
 use Rattle.records.specs.declared.Kind.{Kind}
-use Rattle.records.specs.declared.Kind.the-variants.{SelectLow, Exchange, SelectHigh, FrameHeard, BusIdle, FrameEnds, ReceiveError, Recovery, Unknown}
+use Rattle.records.specs.declared.Kind.the-variants.{SelectLow, Exchange, SelectHigh, Unknown}
 use Rattle.records.specs.declared.Fields.{Fields}
 use Rattle.records.specs.declared.Outcome.{Outcome}
-use Rattle.records.specs.Records.{refusedField, byteAt, kindBy, kindOf, isEvent, soundPlain, soundOf, recordOf}
+use Rattle.records.specs.Records.{refusedField, kindBy, kindOf, isEvent, soundPlain, soundOf, recordOf}
 use Rattle.registers.specs.declared.Core.{Core}
-use Rattle.image.specs.Image.{imageSize, coreOf, Became}
-use Rattle.controller.specs.Events.{eventRefusal, eventOf, outcomeTold}
-use Rattle.spi.specs.declared.Act.{Act}
+use Rattle.image.specs.Image.{Became}
+use Rattle.controller.specs.Events.{eventRefusal, eventOf}
 use Rattle.spi.specs.declared.Act.the-variants.{Refuse}
 use Rattle.spi.specs.declared.Select.{Select}
 use Rattle.spi.specs.declared.Select.the-variants.{Raised, Lowered}
 use Rattle.spi.specs.Instructions.{refusalOf, replyTo, acted}
 use Rattle.spi.specs.Open.{selectOf, Turned}
-use Rattle.spi.proofs.Turns.{select-kept, became-lined, turned-by}
+use Rattle.spi.proofs.Turns.{became-lined, turned-by}
 use Rattle.mcp2515.specs.declared.Chip.{Chip}
 use Rattle.mcp2515.specs.declared.Stepped.{Stepped}
 use Rattle.mcp2515.specs.Step.{askedBy, asked, turnedBy, turned, spiStep, eventStep, stepOf, outcome, nextChip}
-use Rattle.mcp2515.specs.ChipImage.{chipOf, Packed, Moved, actOutcome}
+use Rattle.mcp2515.specs.ChipImage.{Moved}
 use Rattle.mcp2515.proofs.Plain.{asked-plain, turned-plain}
 
 -- ---- kinds 0 to 2

@@ -6,10 +6,8 @@ use Rattle.records.specs.declared.Kind.{Kind}
 use Rattle.records.specs.declared.Kind.the-variants.{SelectLow, Exchange, SelectHigh, FrameHeard, BusIdle, FrameEnds, ReceiveError, Recovery, Unknown}
 use Rattle.records.specs.declared.Outcome.{Outcome}
 use Rattle.records.specs.Records.{refusedSelect, refusedField, byteAt, kindOf, isEvent, soundOf}
-use Rattle.registers.specs.declared.Core.{Core}
 use Rattle.registers.specs.Registers.{powerOnCore}
 use Rattle.controller.specs.Events.{eventOf}
-use Rattle.spi.specs.declared.Instruction.{Instruction}
 use Rattle.spi.specs.declared.Instruction.the-variants.{First}
 use Rattle.spi.specs.declared.Select.{Select}
 use Rattle.spi.specs.declared.Select.the-variants.{Raised, Lowered}

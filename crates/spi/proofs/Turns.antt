@@ -1,12 +1,12 @@
 -- The select line of an image after a change of its bytes, and an act with the mode request after it. Assumes nothing.
-use mathlib.Core.Path.{_≡_, refl, ap, sym, subst, _∙_}
+use mathlib.Core.Path.{_≡_, refl, ap, sym, _∙_}
 use mathlib.Core.Bool.{Bool, true, false, cond}
 use mathlib.Core.List.{List}
 use Prim.Native.Nat.{ℕ, _+_, _-_, _<_, _≤_}
 use native.Mathlib.Omega.{arith}
 use lib.Dec.{eqb}
-use lib.ListN.{length, getD, set, take, drop, length-set}
-use lib.Seq.{getD-set-same, getD-set-other, getD-drop, take-set-le, drop-set-lt, drop-drop}
+use lib.ListN.{length, getD, set, drop, length-set}
+use lib.Seq.{getD-set-same, getD-set-other, getD-drop, drop-set-lt, drop-drop}
 use borrow.Author.Tests.{ne-eqb}
 use Rattle.registers.specs.declared.RxBuffer.{RxBuffer}
 use Rattle.registers.specs.declared.RxBuffer.the-variants.{Rxb0, Rxb1}
@@ -202,31 +202,31 @@ pub stayed : (m : List ℕ) (i : Instruction) → length m ≡ imageSize → (ge
 stayed m i e h p = record { size = e; core = refl; select = open-of m h ∙ ap Lowered p; rest = refl }
 
 -- ---- no act of an open instruction is refused, and select high has no reply
-first-taken : (x : Command) → refusalOf (firstAct x) ≡ 0
-first-taken Reset = refl
-first-taken Read = refl
-first-taken Write = refl
-first-taken BitModify = refl
-first-taken (ReadRxBuffer b a) = refl
-first-taken (LoadTxBuffer b a) = refl
-first-taken (Rts m) = refl
-first-taken ReadStatus = refl
-first-taken RxStatus = refl
-first-taken UnknownCode = refl
+first-accepted : (x : Command) → refusalOf (firstAct x) ≡ 0
+first-accepted Reset = refl
+first-accepted Read = refl
+first-accepted Write = refl
+first-accepted BitModify = refl
+first-accepted (ReadRxBuffer b a) = refl
+first-accepted (LoadTxBuffer b a) = refl
+first-accepted (Rts m) = refl
+first-accepted ReadStatus = refl
+first-accepted RxStatus = refl
+first-accepted UnknownCode = refl
 
-pub exchange-taken : (i : Instruction) (b : ℕ) → refusalOf (exchangeAct i b) ≡ 0
-exchange-taken First b = first-taken (commandOf b)
-exchange-taken ReadAddress b = refl
-exchange-taken (Reading a) b = refl
-exchange-taken WriteAddress b = refl
-exchange-taken (Writing a) b = refl
-exchange-taken ModifyAddress b = refl
-exchange-taken (ModifyMask a) b = refl
-exchange-taken (ModifyData a m) b = refl
-exchange-taken (ReadingBuffer n a) b = refl
-exchange-taken StatusReply b = refl
-exchange-taken RxStatusReply b = refl
-exchange-taken Done b = refl
+pub exchange-accepted : (i : Instruction) (b : ℕ) → refusalOf (exchangeAct i b) ≡ 0
+exchange-accepted First b = first-accepted (commandOf b)
+exchange-accepted ReadAddress b = refl
+exchange-accepted (Reading a) b = refl
+exchange-accepted WriteAddress b = refl
+exchange-accepted (Writing a) b = refl
+exchange-accepted ModifyAddress b = refl
+exchange-accepted (ModifyMask a) b = refl
+exchange-accepted (ModifyData a m) b = refl
+exchange-accepted (ReadingBuffer n a) b = refl
+exchange-accepted StatusReply b = refl
+exchange-accepted RxStatusReply b = refl
+exchange-accepted Done b = refl
 
 pub high-told : (i : Instruction) (k : Core) → (refusalOf (highAct i) ≡ 0) × (replyTo (highAct i) k ≡ 0)
 high-told First k = (refl, refl)

@@ -6,7 +6,6 @@ use lib.Dec.{eqb, ltb}
 use lib.Bits.{bitOr}
 use lib.ListN.{getD}
 use Rattle.bits.specs.Bit.{hasBit, clearBit}
-use Rattle.registers.specs.declared.TxBuffer.{TxBuffer}
 use Rattle.registers.specs.declared.TxBuffer.the-variants.{Txb0, Txb1, Txb2}
 use Rattle.registers.specs.declared.RxBuffer.{RxBuffer}
 use Rattle.registers.specs.declared.RxBuffer.the-variants.{Rxb0, Rxb1}

@@ -1,5 +1,5 @@
 -- A store into the image is the store of the rules on the core that it stands for. Assumes nothing.
-use mathlib.Core.Path.{_≡_, refl, ap, sym, subst, _∙_}
+use mathlib.Core.Path.{_≡_, refl, ap, sym, subst}
 use mathlib.Core.Bool.{Bool, true, false, cond, not, _&&_, _||_}
 use mathlib.Core.List.{List}
 use Prim.Native.Nat.{ℕ, zero, suc, _+_, _%_, _<_}
@@ -13,7 +13,6 @@ use Rattle.registers.specs.declared.Region.{Region}
 use Rattle.registers.specs.declared.Region.the-variants.{Profile, Configured, Bfpctrl, Tec, Rec, Caninte, Canintf, Eflg, Canstat, Canctrl, TxCtrl, TxMessage, RxCtrl, RxMessage}
 use Rattle.registers.specs.declared.TxBuffer.{TxBuffer}
 use Rattle.registers.specs.declared.TxBuffer.the-variants.{Txb0, Txb1, Txb2}
-use Rattle.registers.specs.declared.Core.{Core}
 use Rattle.registers.specs.State.{TXREQ, txNumber, inFlight, isConfiguration, updated, withConfig, withTxBytes}
 use Rattle.registers.specs.Registers.{txAt, regionOf, writableOf}
 use Rattle.image.specs.Image.{imageSize, modeOf, flightOf, decoded, controlOf, coreOf, placeIn, Became}

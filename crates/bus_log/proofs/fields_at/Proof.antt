@@ -2,10 +2,8 @@ use Prim.Native.Nat.{_+_}
 use lib.ListN.{length}
 use Rattle.bus_log.specs.Log.{recordSize, recordAt}
 use native.Mathlib.Omega.{arith}
-use mathlib.Core.Path.{_≡_, refl, sym, ap, _∙_}
-use Prim.Native.Nat.{_+_, _≤_}
+use mathlib.Core.Path.{_∙_}
 use borrow.Author.Tests.{lt-leb, le-leb}
-use Rattle.bus_log.specs.Log.{recordAt}
 use borrow.Author.Needs.{needs}
 use Rattle.bus_log.proofs.fields_at.Statement.{statement}
 use Rattle.bus_log.proofs.fields_at.Tie as tie

@@ -1,4 +1,4 @@
-use mathlib.Core.Path.{_≡_, refl, sym, ap, _∙_}
+use mathlib.Core.Path.{sym}
 use Rattle.records.specs.Records.{recordOf}
 use Rattle.records.proofs.Taken.{sixteen}
 use borrow.Author.Needs.{needs}

@@ -1,6 +1,5 @@
 use mathlib.Core.Path.{refl}
 use Rattle.records.specs.Records.{recordOf}
-use borrow.Author.Needs.{needs}
 use Rattle.bus_log.proofs.no_fields.Statement.{statement}
 use Rattle.bus_log.proofs.no_fields.Tie as tie
 

@@ -1,5 +1,5 @@
 use native.Mathlib.Omega.{arith}
-use mathlib.Core.Path.{_≡_, refl, sym, ap, _∙_}
+use mathlib.Core.Path.{_≡_, refl, sym, _∙_}
 use Prim.Native.Nat.{_+_, _*_, _-_, _≤_}
 use mathlib.Core.List.{[], _∷_}
 use lib.ListN.{length, drop, length-set}
@@ -9,7 +9,7 @@ use Rattle.mcp2515.specs.Step.{stepOf}
 use Rattle.mcp2515.specs.ChipImage.{chipOf}
 use Rattle.bus_log.specs.Log.{recordSize, recordAt, stepsOf, answersOf}
 use Rattle.bus_log.specs.Run.{answerRoom}
-use Rattle.bus_log.proofs.Advance.{Ran, ran}
+use Rattle.bus_log.proofs.Advance.{ran}
 use Rattle.bus_log.proofs.Answers.{store-step}
 use Rattle.bus_log.proofs.Steps.{record-within, next-step}
 use borrow.Author.Needs.{needs}

@@ -1,6 +1,4 @@
-use mathlib.Core.Path.{_≡_, _∙_}
-use Prim.Native.Nat.{ℕ}
-use borrow.Author.Tests.{ne-eqb}
+use mathlib.Core.Path.{_≡_}
 use Rattle.registers.specs.Registers.{regionOf}
 use Rattle.image.proofs.Places.{derived-last}
 use borrow.Author.Needs.{needs}

@@ -1,6 +1,6 @@
 use native.Mathlib.Omega.{arith}
 use mathlib.Core.Path.{_≡_, sym, _∙_}
-use Prim.Native.Nat.{ℕ, _%_, _<_}
+use Prim.Native.Nat.{_%_}
 use Rattle.registers.specs.Registers.{regionOf}
 use Rattle.image.specs.Image.{placeIn, placeOf}
 use Rattle.image.proofs.Places.{holds-place, place-small}

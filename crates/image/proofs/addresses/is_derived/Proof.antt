@@ -5,7 +5,6 @@ use Rattle.bits.proofs.All.{every}
 use Rattle.registers.specs.Registers.{regionOf}
 use Rattle.image.specs.Image.{isDerived}
 use Rattle.image.proofs.Places.{sameBool, same-bool}
-use borrow.Author.Needs.{needs}
 use Rattle.image.proofs.addresses.is_derived.Statement.{statement}
 use Rattle.image.proofs.addresses.is_derived.Tie as tie
 

@@ -4,7 +4,6 @@ use lib.Dec.{ltb}
 use Rattle.bits.proofs.All.{every}
 use Rattle.registers.specs.Registers.{regionOf, isProfile}
 use Rattle.image.proofs.Places.{sameBool, same-bool}
-use borrow.Author.Needs.{needs}
 use Rattle.image.proofs.addresses.is_profile.Statement.{statement}
 use Rattle.image.proofs.addresses.is_profile.Tie as tie
 

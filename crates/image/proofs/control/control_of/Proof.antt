@@ -1,6 +1,5 @@
 use Rattle.image.proofs.Laws.{answered, unanswered}
 use Rattle.image.specs.Image.{decoded}
-use Rattle.image.proofs.Laws.{answered}
 use borrow.Author.Needs.{needs}
 use Rattle.image.proofs.control.control_of.Statement.{statement}
 use Rattle.image.proofs.control.control_of.Tie as tie

@@ -1,5 +1,4 @@
 use borrow.Author.Tests.{ne-eqb}
-use borrow.Author.Needs.{needs}
 use Rattle.image.proofs.control.mode_of.Statement.{statement}
 use Rattle.image.proofs.control.mode_of.Tie as tie
 

@@ -2,10 +2,6 @@ use lib.ListN.{replicate}
 use mathlib.Core.Path.{refl}
 use Rattle.mcp2515.proofs.Images.{second-room, third-room, bytes-in}
 use native.Mathlib.Omega.{arith}
-use mathlib.Core.Path.{_≡_, refl, sym, ap, _∙_}
-use lib.ListN.{length, take, drop}
-use lib.Seq.{sets, length-sets}
-use Rattle.mcp2515.proofs.Images.{part-at, part-below}
 use borrow.Author.Needs.{needs}
 use Rattle.mcp2515.proofs.packing.with_bytes.Statement.{statement}
 use Rattle.mcp2515.proofs.packing.with_bytes.Tie as tie

@@ -1,4 +1,4 @@
-use mathlib.Core.Path.{_≡_, refl, sym, ap, _∙_}
+use mathlib.Core.Path.{ap, _∙_}
 use Rattle.mcp2515.specs.declared.Chip.{Chip}
 use Rattle.registers.specs.Registers.{holds}
 use borrow.Author.Needs.{needs}

@@ -1,4 +1,4 @@
-use mathlib.Core.Path.{_≡_, refl, sym, ap, _∙_}
+use mathlib.Core.Path.{_∙_}
 use Rattle.mcp2515.proofs.Images.{power-on-chip}
 use borrow.Author.Needs.{needs}
 use Rattle.mcp2515.proofs.steps.power_on.Statement.{statement}

@@ -1,7 +1,7 @@
-use mathlib.Core.Path.{_≡_, refl, sym, ap, _∙_}
+use mathlib.Core.Path.{_∙_}
 use borrow.Author.Tests.{ne-eqb}
 use Rattle.spi.specs.Open.{openOf}
-use Rattle.spi.proofs.Turns.{stayed, open-of, exchange-taken, high-told}
+use Rattle.spi.proofs.Turns.{open-of, exchange-accepted}
 use Rattle.spi.proofs.Turns.{lined, turned-by}
 use borrow.Author.Needs.{needs}
 use Rattle.mcp2515.proofs.steps.step_exchange.Statement.{statement}
@@ -26,7 +26,7 @@ same-length : tie.Need-same-length
 same-length c = search needs
 
 returns-2 : tie.Need-returns-2
-returns-2 c = let m = c .before .before .before .before .before .before .before .before .args .image .now in let p = open-of m (c .before .before .before .before .before .if1 .left) in rw (ne-eqb _ 0 (c .before .before .before .before .before .if1 .left)) (c .accept .ensures ∙ rw (exchange-taken (openOf m) (c .before .before .before .before .before .before .before .before .args .byte), c .before .before .before .exchange .ensures .reply (c .before .before .before .before .before .before .before .before .pre) (openOf m) p), c .before .before .before .exchange .ensures .image (c .before .before .before .before .before .before .before .before .pre) (openOf m) p)
+returns-2 c = let m = c .before .before .before .before .before .before .before .before .args .image .now in let p = open-of m (c .before .before .before .before .before .if1 .left) in rw (ne-eqb _ 0 (c .before .before .before .before .before .if1 .left)) (c .accept .ensures ∙ rw (exchange-accepted (openOf m) (c .before .before .before .before .before .before .before .before .args .byte), c .before .before .before .exchange .ensures .reply (c .before .before .before .before .before .before .before .before .pre) (openOf m) p), c .before .before .before .exchange .ensures .image (c .before .before .before .before .before .before .before .before .pre) (openOf m) p)
 
 pub step-exchange-spec : {M : Type 1} → statement M
 step-exchange-spec =

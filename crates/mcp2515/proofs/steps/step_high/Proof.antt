@@ -1,7 +1,7 @@
-use mathlib.Core.Path.{_≡_, refl, sym, ap, _∙_}
+use mathlib.Core.Path.{_∙_}
 use borrow.Author.Tests.{ne-eqb}
 use Rattle.spi.specs.Open.{openOf}
-use Rattle.spi.proofs.Turns.{stayed, open-of, exchange-taken, high-told}
+use Rattle.spi.proofs.Turns.{high-told}
 use Rattle.image.specs.Image.{coreOf}
 use Rattle.spi.proofs.Turns.{lined, turned-by}
 use borrow.Author.Needs.{needs}

@@ -2,7 +2,7 @@ use native.Mathlib.Omega.{arith}
 use Rattle.records.specs.Records.{recordOf}
 use Rattle.mcp2515.specs.ChipImage.{chipOf}
 use Rattle.mcp2515.proofs.Sides.{event-side, told-as, moved-as, became-moved}
-use mathlib.Core.Path.{_≡_, refl, sym, ap, _∙_}
+use mathlib.Core.Path.{refl}
 use Rattle.image.proofs.Laws.{answered, unanswered}
 use borrow.Author.Needs.{needs}
 use Rattle.mcp2515.proofs.steps.step_in_place.Statement.{statement}

@@ -1,7 +1,7 @@
-use mathlib.Core.Path.{_≡_, refl, sym, ap, _∙_}
+use mathlib.Core.Path.{refl}
 use borrow.Author.Tests.{ne-eqb}
 use Rattle.spi.specs.Open.{openOf}
-use Rattle.spi.proofs.Turns.{stayed, open-of, exchange-taken, high-told}
+use Rattle.spi.proofs.Turns.{stayed}
 use borrow.Author.Needs.{needs}
 use Rattle.mcp2515.proofs.steps.step_low.Statement.{statement}
 use Rattle.mcp2515.proofs.steps.step_low.Tie as tie

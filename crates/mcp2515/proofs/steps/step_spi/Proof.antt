@@ -1,9 +1,7 @@
 use Rattle.mcp2515.proofs.Sides.{turned-moved, unsound-step, low-step, exchange-step, high-step, unless, provided, told-as, moved-as}
-use Rattle.mcp2515.proofs.Sides.{turned-moved, unsound-step, low-step, exchange-step, high-step, unless, provided}
-use mathlib.Core.Path.{_≡_, refl, sym, ap, _∙_}
+use mathlib.Core.Path.{_≡_, sym, _∙_}
 use native.Mathlib.Omega.{arith}
 use Rattle.mcp2515.specs.ChipImage.{chipOf}
-use Rattle.mcp2515.proofs.Sides.{turned-moved, unsound-step, low-step, exchange-step, high-step}
 use mathlib.Core.Bool.{false, true}
 use Rattle.records.specs.Records.{kindBy, soundPlain, recordOf}
 use Rattle.spi.proofs.Turns.{lined, turned-by}

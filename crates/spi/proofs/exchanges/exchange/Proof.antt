@@ -2,7 +2,7 @@ use mathlib.Core.Path.{_≡_, refl, sym, subst, _∙_}
 use Rattle.spi.specs.declared.Instruction.{Instruction}
 use Rattle.spi.specs.declared.Select.the-variants.{Lowered}
 use Rattle.spi.specs.Instructions.{exchangeAct, exchangeNext, replyTo, acted}
-use Rattle.spi.specs.Open.{selectOf, openOf, Turned}
+use Rattle.spi.specs.Open.{openOf, Turned}
 use Rattle.image.specs.Image.{coreOf}
 use Rattle.spi.proofs.Turns.{open-of, same-open, not-both, then-settled, exchange-acted}
 use borrow.Author.Needs.{needs}

@@ -1,6 +1,5 @@
 use borrow.Author.Tests.{ne-eqb}
 use Rattle.spi.specs.Open.{instructionBy}
-use borrow.Author.Needs.{needs}
 use Rattle.spi.proofs.lines.instruction_by.Statement.{statement}
 use Rattle.spi.proofs.lines.instruction_by.Tie as tie
 

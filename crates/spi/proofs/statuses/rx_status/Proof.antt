@@ -2,7 +2,6 @@ use native.Mathlib.Omega.{arith}
 use native.Mathlib.Nat.{div-one}
 use lib.ListN.{drop}
 use lib.Seq.{getD-take, getD-drop}
-use mathlib.Core.Path.{_∙_}
 use Rattle.image.specs.Image.{decoded}
 use Rattle.spi.specs.Instructions.{rxStatusOf}
 use borrow.Author.Needs.{needs}

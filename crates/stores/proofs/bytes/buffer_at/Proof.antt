@@ -1,6 +1,3 @@
-use mathlib.Core.Bool.{Bool, true, false, cond}
-use mathlib.Core.Path.{_≡_, refl}
-use lib.Dec.{ltb}
 use Rattle.stores.proofs.Merged.{buffer-number}
 use borrow.Author.Needs.{needs}
 use Rattle.stores.proofs.bytes.buffer_at.Statement.{statement}

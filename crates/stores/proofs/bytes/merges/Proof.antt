@@ -5,7 +5,6 @@ use Rattle.bits.proofs.All.{every}
 use Rattle.registers.specs.Registers.{regionOf}
 use Rattle.image.proofs.Places.{sameBool, same-bool}
 use Rattle.stores.specs.Merging.{mergesIn}
-use borrow.Author.Needs.{needs}
 use Rattle.stores.proofs.bytes.merges.Statement.{statement}
 use Rattle.stores.proofs.bytes.merges.Tie as tie
 

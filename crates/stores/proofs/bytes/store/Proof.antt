@@ -1,6 +1,5 @@
 use native.Mathlib.Omega.{arith}
 use mathlib.Core.Path.{sym, _∙_, ap}
-use Rattle.registers.specs.declared.Region.{Region}
 use Rattle.stores.specs.Store.{stored}
 use Rattle.stores.specs.Merging.{mergesIn}
 use Rattle.image.proofs.Laws.{acted, passed}
