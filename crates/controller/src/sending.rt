@@ -33,19 +33,16 @@ use records::Frame;
 use registers::ABTF;
 use registers::Control;
 use registers::Counters;
+use registers::EXIDE;
 use registers::Flight;
 use registers::MLOA;
 use registers::OSM;
+use registers::RTR;
 use registers::State;
 use registers::TXERR;
 use registers::TXREQ;
 use registers::TxBuffer;
 use registers::TxControl;
-
-// Bits of a transmit buffer's SIDL and DLC.
-const EXIDE: u8 = 8;
-
-const RTR: u8 = 64;
 
 fn rank(ctrl: u8) -> u8
     ensures { λ r. ⌜ r ≡ rankOf ctrl ⌝ }

@@ -17,10 +17,8 @@ use crate::Hit;
 use crate::Key;
 use image::RXB0CTRL;
 use image::RXB1CTRL;
+use registers::EXIDE;
 use registers::RxBuffer;
-
-// IDE of SIDL: the filter is for extended frames.
-const EXIDE: u8 = 8;
 
 fn same_as(x: bool, y: bool) -> bool
     ensures { λ r. ⌜ r ≡ sameAs x y ⌝ }

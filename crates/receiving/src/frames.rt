@@ -22,6 +22,7 @@ use crate::Key;
 use crate::Verdict;
 use records::Frame;
 use records::carried_by;
+use registers::RTR;
 
 // Where the bytes of RXB0 and RXB1 lie, behind their control bytes.
 const RXB0: usize = 96;
@@ -85,7 +86,7 @@ fn eid0(frame: Frame) -> u8
 fn dlc(frame: Frame) -> u8
     ensures { λ r. ⌜ r ≡ dlcOf frame ⌝ }
 {
-    frame.length | bits::choose(frame.extended & frame.remote, 64, 0)
+    frame.length | bits::choose(frame.extended & frame.remote, RTR, 0)
 }
 
 fn carried_in(frame: Frame) -> u8

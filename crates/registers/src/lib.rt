@@ -18,7 +18,6 @@ pub use map::capped;
 pub use map::first_control;
 pub use map::int_is_low;
 pub use map::region_of;
-pub use map::rx_control;
 pub use modes::enter;
 pub use modes::is_configuration;
 pub use modes::is_loopback;
@@ -75,6 +74,13 @@ pub const BUKT1: u8 = 2;
 pub const BUKT: u8 = 4;
 
 pub const RXRTR: u8 = 8;
+
+// Bits of SIDL and DLC: EXIDE of a filter or a message to send and IDE of one received, and RTR.
+pub const EXIDE: u8 = 8;
+
+pub const IDE: u8 = 8;
+
+pub const RTR: u8 = 64;
 
 // Bits of EFLG.
 pub const RX0OVR: u8 = 64;

@@ -14,7 +14,6 @@ ghost use Rattle.registers.specs.Registers.{
   intIsLow,
   interruptCode,
   canstatOf,
-  rxControl,
 };
 use crate::Control;
 use crate::ERRIF;
@@ -215,15 +214,6 @@ pub fn canstat(control: Control) -> u8
     let mode = state.mode;
     let flags = control.flags;
     mode_bits(mode) | interrupt_bits(sources_of(flags))
-}
-
-pub fn rx_control(rx: RxControl, buffer: RxBuffer) -> u8
-    ensures { λ x. ⌜ x ≡ rxControl rx buffer ⌝ }
-{
-    match buffer {
-        RxBuffer::Rxb0 => rx.rxb0,
-        RxBuffer::Rxb1 => rx.rxb1,
-    }
 }
 
 // TEC as it reads.

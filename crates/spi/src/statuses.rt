@@ -8,6 +8,7 @@ use image::CANINTF;
 use image::RXB0CTRL;
 use image::RXB1CTRL;
 use registers::Control;
+use registers::IDE;
 use registers::RX1IF;
 use registers::RXRTR;
 use registers::TX0IF;
@@ -20,9 +21,6 @@ use registers::flag;
 const RXB0SIDL: usize = 98;
 
 const RXB1SIDL: usize = 114;
-
-// IDE of SIDL: the frame is extended.
-const IDE: u8 = 8;
 
 fn status_of(control: Control) -> u8
     ensures { λ r. ⌜ r ≡ statusOf control ⌝ }
