@@ -1,7 +1,7 @@
-// Replays a recorded log, from standard input or from the file that its one argument names, and
-// prints a line for each record.
+// Replays a recorded log, from standard input or from a file, and prints a line for each record as
+// soon as the record is there.
 ghost use mathlib.Core.Path.{_≡_};
-ghost use Prim.Native.Nat.{_*_};
+ghost use Prim.Native.Nat.{_+_, _*_, _≤_};
 ghost use lib.ListN.{length};
 ghost use Rattle.bus_log.specs.Log.{recordSize};
 use bus_log::MAX_RECORDS;
@@ -11,13 +11,18 @@ use libc::STDIN_FILENO;
 use libc::STDOUT_FILENO;
 use mcp2515::Chip;
 
-// A stretch is a whole number of records, so that none lies in two stretches.
+// The most bytes that are read at once. The text of so many records fits the output buffer.
 const STRETCH: usize = 2048 * RECORD_SIZE;
 
-// The records run so far, the chip that they left, and whether to go on.
+// A log with one record too many, read a byte at a time.
+const MOST_READS: usize = (MAX_RECORDS + 1) * RECORD_SIZE + 1;
+
+// The records run so far, the chip that they left, the bytes of a record that is not whole yet, and
+// whether to go on.
 struct Progress {
     chip: Chip,
     number: u32,
+    kept: usize,
     more: bool,
 }
 
@@ -27,49 +32,102 @@ fn stretch_buffer() -> [u8; STRETCH]
     [0; STRETCH]
 }
 
-// A read that fails looks like the end of the log; one more read tells the two apart.
-fn report_failed_read(fd: i32) {
-    let mut byte = [0u8; 1];
-    if libc::read(fd, &mut byte) < 0 {
-        os::fail(b"reading the log");
-    }
-}
-
-// Reads a stretch, renders it and writes its text at once.
-fn replay_stretch(fd: i32, p: Progress) -> Progress {
-    let mut input = stretch_buffer();
-    let size = io::read_full(fd, &mut input);
-    let mut output = io::large_buffer();
+// Renders a part of the log and writes its text at once.
+fn replay_part(p: Progress, part: &[u8], output: &mut [u8]) -> Progress {
     let chip = p.chip;
-    let rendered = log_text::render_stretch(chip, p.number, &input[..size], &mut output);
+    let rendered = log_text::render_stretch(chip, p.number, part, output);
     let len = rendered.len;
-    let written = io::write_all(STDOUT_FILENO, &output[..len]);
+    let mut written = false;
+    if len <= output.len() {
+        written = io::write_all(STDOUT_FILENO, &output[..len]);
+    }
     if !written {
         os::fail(b"standard output");
-    }
-    if size < STRETCH {
-        report_failed_read(fd);
     }
     let next = rendered.chip;
     Progress {
         chip: next,
         number: rendered.number,
-        more: written & (rendered.refusal == 0) & (size == STRETCH),
+        kept: 0,
+        more: written & (rendered.refusal == 0),
     }
 }
 
-// A stretch with more to come has run 2,048 records, so the limit on records ends the loop before
-// its turns are used up.
+fn stopped(p: Progress) -> Progress {
+    let chip = p.chip;
+    Progress {
+        chip,
+        number: p.number,
+        kept: 0,
+        more: false,
+    }
+}
+
+// Moves the start of a record that is not whole yet to the front.
+fn keep(input: &mut [u8], from: usize, size: usize)
+    requires { ⌜ from + size ≤ length (now input) ⌝ }
+{
+    let mut i = 0;
+    while i < size {
+        input[i] = input[from + i];
+        i += 1;
+    }
+}
+
+// Renders the records that are whole in the first size bytes, and keeps the rest.
+fn replay_whole(p: Progress, input: &mut [u8], size: usize, output: &mut [u8]) -> Progress
+    requires { ⌜ size ≤ length (now input) ⌝ }
+{
+    let left = size % RECORD_SIZE;
+    let whole = size - left;
+    let next = replay_part(p, &input[..whole], output);
+    keep(input, whole, left);
+    let chip = next.chip;
+    Progress {
+        chip,
+        number: next.number,
+        kept: left,
+        more: next.more,
+    }
+}
+
+fn read_behind(fd: i32, input: &mut [u8], kept: usize) -> isize
+    requires { ⌜ kept ≤ length (now input) ⌝ }
+{
+    libc::read(fd, &mut input[kept..])
+}
+
+// Reads once, behind the bytes that are kept. Where the log ends there, they are a short record.
+fn replay_read(fd: i32, p: Progress, input: &mut [u8], output: &mut [u8]) -> Progress {
+    let kept = p.kept;
+    if kept >= input.len() {
+        return stopped(p);
+    }
+    let got = read_behind(fd, input, kept);
+    if got < 0 {
+        os::fail(b"reading the log");
+        return stopped(p);
+    }
+    if got == 0 {
+        return stopped(replay_part(p, &input[..kept], output));
+    }
+    let size = kept + io::count(got, &input[kept..]);
+    replay_whole(p, input, size, output)
+}
+
 fn replay_log(fd: i32) {
+    let mut input = stretch_buffer();
+    let mut output = io::large_buffer();
     let mut p = Progress {
         chip: mcp2515::power_on(),
         number: 0,
+        kept: 0,
         more: true,
     };
-    let mut turns = MAX_RECORDS;
-    while turns > 0 && p.more {
-        p = replay_stretch(fd, p);
-        turns -= 1;
+    let mut reads = MOST_READS;
+    while reads > 0 && p.more {
+        p = replay_read(fd, p, &mut input, &mut output);
+        reads -= 1;
     }
 }
 
@@ -86,29 +144,87 @@ fn open_log(path: &[u8]) -> i32 {
     fd
 }
 
-fn replay_file() {
-    let mut path = io::buffer();
-    let size = os::arg(1, &mut path);
-    if os::errno() != 0 {
-        os::fail(b"argument");
-        return;
-    }
-    let fd = open_log(&path[..size]);
+fn replay_file(path: &[u8]) {
+    let fd = open_log(path);
     if fd < 0 {
-        os::fail(&path[..size]);
+        os::fail(path);
         return;
     }
     replay_log(fd);
     libc::close(fd);
 }
 
+fn show_usage(fd: i32) {
+    io::write_all(fd, b"usage: replay [--help] [--] [LOG]\n");
+}
+
+fn show_help() {
+    show_usage(STDOUT_FILENO);
+    io::write_all(
+        STDOUT_FILENO,
+        b"Replays LOG, or standard input where LOG is missing or -, from power-on.\n",
+    );
+    io::write_all(
+        STDOUT_FILENO,
+        b"Prints a line for each record: its number from 1, refusal, answer.\n",
+    );
+}
+
+// A dash alone is standard input.
+fn replay_named(word: &[u8]) {
+    if check::same(word, b"-") {
+        replay_log(STDIN_FILENO);
+    } else {
+        replay_file(word);
+    }
+}
+
+// What follows the two dashes that end the options.
+fn replay_operand(words: usize) {
+    if words == 2 {
+        replay_log(STDIN_FILENO);
+        return;
+    }
+    if words > 3 {
+        show_usage(STDERR_FILENO);
+        return;
+    }
+    let mut word = io::buffer();
+    let size = os::arg(2, &mut word);
+    if os::errno() != 0 {
+        os::fail(b"argument");
+        return;
+    }
+    replay_named(&word[..size]);
+}
+
+fn is_option(word: &[u8]) -> bool {
+    word.len() > 1 && word[0] == b'-'
+}
+
+fn replay_by(first: &[u8], words: usize) {
+    if check::same(first, b"--help") {
+        show_help();
+    } else if check::same(first, b"--") {
+        replay_operand(words);
+    } else if is_option(first) | (words > 2) {
+        show_usage(STDERR_FILENO);
+    } else {
+        replay_named(first);
+    }
+}
+
 fn main() {
     let words = os::arg_count();
-    if words > 2 {
-        io::write_all(STDERR_FILENO, b"usage: replay [LOG]\n");
-    } else if words == 2 {
-        replay_file();
-    } else {
+    if words < 2 {
         replay_log(STDIN_FILENO);
+        return;
     }
+    let mut first = io::buffer();
+    let size = os::arg(1, &mut first);
+    if os::errno() != 0 {
+        os::fail(b"argument");
+        return;
+    }
+    replay_by(&first[..size], words);
 }

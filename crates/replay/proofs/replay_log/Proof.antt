@@ -1,31 +1,45 @@
--- The loop ends: the measure is the turns left. Nothing else has to hold from turn to turn. Assumes nothing.
+-- The loop ends: the measure is the reads left. The buffers keep their lengths. Assumes nothing.
+use mathlib.Core.Path.{_≡_}
+use lib.ListN.{length}
 use borrow.Author.Needs.{needs}
 use Rattle.replay.proofs.replay_log.Statement.{statement}
 use Rattle.replay.proofs.replay_log.Tie as tie
 
 abbrev Inv-loop : tie.InvT-loop
-Inv-loop fd p₀ turns₀ p turns = Unit {0}
+Inv-loop fd input₀ output₀ p₀ reads₀ input output p reads = (length input ≡ 32768) × (length output ≡ 65536)
 
 abbrev μ-loop : tie.MeasureT-loop
-μ-loop fd p₀ turns₀ p turns = turns
+μ-loop fd input₀ output₀ p₀ reads₀ input output p reads = reads
+
+stretch-buffer-requires : tie.Need-stretch-buffer-requires Inv-loop μ-loop
+stretch-buffer-requires c κs = search needs
+
+large-buffer-requires : tie.Need-large-buffer-requires Inv-loop μ-loop
+large-buffer-requires c κs = search needs
 
 power-on-requires : tie.Need-power-on-requires Inv-loop μ-loop
 power-on-requires c κs = search needs
 
 loop-holds : tie.Need-loop-holds Inv-loop μ-loop
-loop-holds c = tt
+loop-holds c = search needs
 
-replay-stretch-requires : tie.Need-replay-stretch-requires Inv-loop μ-loop
-replay-stretch-requires c κs = search needs
+slice-aggregate-replay-read : tie.Need-slice-aggregate-replay-read Inv-loop μ-loop
+slice-aggregate-replay-read c = search needs
 
-sub-turns : tie.Need-sub-turns Inv-loop μ-loop
-sub-turns c = search needs
+slice-aggregate-replay-read-2 : tie.Need-slice-aggregate-replay-read-2 Inv-loop μ-loop
+slice-aggregate-replay-read-2 c = search needs
+
+replay-read-requires : tie.Need-replay-read-requires Inv-loop μ-loop
+replay-read-requires c κs = search needs
+
+sub-reads : tie.Need-sub-reads Inv-loop μ-loop
+sub-reads c = search needs
 
 loop-less : tie.Need-loop-less Inv-loop μ-loop
 loop-less c = search needs
 
 loop-again : tie.Need-loop-again Inv-loop μ-loop
-loop-again c = tt
+loop-again c = search needs
 
 returns : tie.Need-returns Inv-loop μ-loop
 returns c = search needs
@@ -39,10 +53,14 @@ replay-log-spec =
     (tie.spec
     Inv-loop
     μ-loop
+    stretch-buffer-requires
+    large-buffer-requires
     power-on-requires
     loop-holds
-    replay-stretch-requires
-    sub-turns
+    slice-aggregate-replay-read
+    slice-aggregate-replay-read-2
+    replay-read-requires
+    sub-reads
     loop-less
     loop-again
     returns
