@@ -6,7 +6,15 @@ ghost use Rattle.records.specs.Records.{recordOf};
 ghost use Rattle.registers.specs.State.{isNormal, isIdle, withControl};
 ghost use Rattle.registers.specs.Errors.{isBusOff, movedTo, recLess};
 ghost use Rattle.receiving.specs.Receiving.{receivedOf};
-ghost use Rattle.image.specs.Image.{imageSize, controlOf, coreOf, Became, Acted, Answered};
+ghost use Rattle.image.specs.Image.{
+  imageSize,
+  controlOf,
+  coreOf,
+  Became,
+  Acted,
+  Answered,
+  RefusedKept,
+};
 ghost use Rattle.controller.specs.Events.{
   ignored,
   wokenControl,
@@ -363,6 +371,7 @@ fn refuse(control: Control, fields: Fields) -> u8
 pub fn event(image: &mut [u8], fields: Fields) -> Outcome
     ensures { λ r. ⌜ Answered (now (image .entry)) r (outcomeTold (eventOf (coreOf (now (image .entry))) (recordOf fields))) notAnImage ⌝ }
     ensures { λ _. ⌜ Acted (now (image .entry)) (now (image .exit)) (eventOf (coreOf (now (image .entry))) (recordOf fields) .core) ⌝ }
+    ensures { λ r. ⌜ RefusedKept (r .refusal) (now (image .entry)) (now (image .exit)) ⌝ }
 {
     if image.len() != SIZE {
         return Outcome {

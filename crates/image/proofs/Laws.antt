@@ -1,6 +1,6 @@
 -- What the core is that an image stands for, after a change of its bytes. Assumes nothing.
 use mathlib.Core.Path.{_≡_, refl, ap, sym, subst, _∙_, fun-ext}
-use mathlib.Core.Bool.{Bool, true, false, cond}
+use mathlib.Core.Bool.{Bool, true, false, cond, _&&_}
 use mathlib.Core.List.{List, [], _∷_, _++_}
 use Prim.Native.Nat.{ℕ, zero, suc, _+_, _*_, _/_, _%_, _-_, _<_, _≤_}
 use native.Mathlib.Omega.{arith}
@@ -21,7 +21,7 @@ use Rattle.registers.specs.declared.Core.{Core}
 use Rattle.registers.specs.State.{modeNumber, withControl, withConfig, withTxBytes, withRxBytes}
 use Rattle.registers.specs.Registers.{firstControl, resetCore}
 use Rattle.registers.specs.Modes.{requested, settled}
-use Rattle.image.specs.Image.{imageSize, selectAt, modeOf, flightOf, flightNumber, requestNumber, decoded, controlOf, encoded, coreOf, Became, Acted, Answered}
+use Rattle.image.specs.Image.{imageSize, selectAt, versionAt, version, isChip, modeOf, flightOf, flightNumber, requestNumber, decoded, controlOf, encoded, coreOf, Became, Acted, Answered}
 
 -- ---- the enums come back out of their bytes
 pub mode-back : (m : Mode) → modeOf (modeNumber m) ≡ m
@@ -230,3 +230,23 @@ changed-by {m} {n} f a p w =
       image = λ e. subst (λ (x : Control). Became m n (withControl (coreOf m) x)) (p ∙ ap f (a .image e)) (w .image e);
       other = w .other;
     }
+
+-- ---- bytes that are a chip
+both : (a b : Bool) → a && b ≡ true → (a ≡ true) × (b ≡ true)
+both true true e = (refl, refl)
+both true false e = (refl, e)
+both false b e = (e, absurd (clash e))
+  where
+    clash : false ≡ true → ⊥
+    clash q = let z : _≡_ {A = ℕ} 0 1 = ap (λ (x : Bool). cond x 1 0) q in omega arith
+
+pub chip-size : (m : List ℕ) → isChip m ≡ true → length m ≡ imageSize
+unfolding isChip
+chip-size m e = eqb-true (length m) imageSize (both (eqb (length m) imageSize) (eqb (getD m versionAt 0) version) e .0)
+
+-- an image with the spare bytes of a chip, the version among them, is a chip
+pub chip-again : (m n : List ℕ) → length n ≡ imageSize → drop 146 n ≡ drop 146 m → isChip m ≡ true → isChip n ≡ true
+unfolding isChip
+chip-again m n size spare e =
+    let same : getD n versionAt 0 ≡ getD m versionAt 0 = sym (getD-drop 146 n 5 0) ∙ ap (λ (l : List ℕ). getD l 5 0) spare ∙ getD-drop 146 m 5 0 in
+    rw (same, size, both (eqb (length m) imageSize) (eqb (getD m versionAt 0) version) e .1)

@@ -1,11 +1,11 @@
 -- The chip as bytes at fixed places: 00h to 7Fh at their addresses, behind them the control registers, one to a byte and TEC in two, then
 -- the select line. Any bytes of this length stand for a core: a decoder has an answer for every byte.
 use Prim.Native.Nat.{ℕ, _+_, _*_, _/_, _%_}
-use mathlib.Core.Bool.{Bool, true, false, cond}
+use mathlib.Core.Bool.{Bool, true, false, cond, _&&_}
 use mathlib.Core.Path.{_≡_}
-use mathlib.Core.List.{List, [], _∷_}
+use mathlib.Core.List.{List, [], _∷_, _++_}
 use lib.Dec.{eqb}
-use lib.ListN.{length, getD, take, drop}
+use lib.ListN.{length, getD, take, drop, replicate}
 use Rattle.registers.specs.declared.Mode.{Mode}
 use Rattle.registers.specs.declared.Mode.the-variants.{Normal, Sleep, Loopback, ListenOnly, Configuration}
 use Rattle.registers.specs.declared.TxBuffer.the-variants.{Txb0, Txb1, Txb2}
@@ -18,7 +18,7 @@ use Rattle.registers.specs.declared.Core.{Core}
 use Rattle.registers.specs.declared.Region.{Region}
 use Rattle.registers.specs.declared.Region.the-variants.{Profile, Configured, Bfpctrl, Tec, Rec, Caninte, Canintf, Eflg, Canstat, Canctrl, TxCtrl, TxMessage, RxCtrl, RxMessage}
 use Rattle.registers.specs.State.{modeNumber, txNumber, rxFlag}
-use Rattle.registers.specs.Registers.{regionOf}
+use Rattle.registers.specs.Registers.{regionOf, firstControl}
 use Rattle.registers.specs.Modes.{requested}
 
 -- the bytes of an image; those past the select line are spare
@@ -28,6 +28,17 @@ imageSize = 152
 -- where the select line lies, with the open instruction, its address and its mask
 abbrev pub selectAt : ℕ
 selectAt = 143
+
+-- where the version lies that a chip bears which a C program holds, and the version of this layout
+abbrev pub versionAt : ℕ
+versionAt = 151
+
+abbrev pub version : ℕ
+version = 1
+
+-- bytes are a chip where they are an image of this version
+unfoldable pub isChip : List ℕ → Bool
+isChip m = eqb (length m) imageSize && eqb (getD m versionAt 0) version
 
 -- ---- the enums in a byte: modes by their number, a flight by its buffer or 3, a request by its mode or 7; each larger byte means the last
 abbrev pub modeOf : ℕ → Mode
@@ -70,6 +81,10 @@ encoded c =
     ∷ c .rx .rxb0 ∷ c .rx .rxb1
     ∷ c .counters .tec % 256 ∷ c .counters .rec ∷ c .counters .tec / 256
     ∷ modeNumber (c .state .mode) ∷ flightNumber (c .state .flight) ∷ requestNumber (c .state .request) ∷ []
+
+-- ---- the bytes at power-on: zeros for 00h to 7Fh, the control registers, the select line high and the spare bytes 0, the version
+unfoldable pub powerOnBytes : List ℕ
+powerOnBytes = replicate 128 0 ++ (encoded firstControl ++ (replicate 8 0 ++ (version ∷ [])))
 
 -- ---- the core that an image stands for
 abbrev pub coreOf : List ℕ → Core
@@ -126,3 +141,7 @@ pub record Acted (m n : List ℕ) (k : Core) : Type 0 where
 pub record Answered {A : Type 0} (m : List ℕ) (r a o : A) : Type 0 where
   pub image : length m ≡ imageSize → r ≡ a
   pub other : (length m ≡ imageSize → ⊥) → r ≡ o
+
+-- a record refused by the number r changes no byte: n after it is m
+abbrev pub RefusedKept : ℕ → List ℕ → List ℕ → Type 0
+RefusedKept r m n = (r ≡ 0 → ⊥) → n ≡ m

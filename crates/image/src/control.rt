@@ -4,17 +4,18 @@ ghost use mathlib.Core.List.{_++_};
 ghost use Prim.Native.Nat.{_+_, _*_, _/_};
 ghost use lib.ListN.{length, drop, replicate};
 ghost use Rattle.registers.specs.State.{withControl};
-ghost use Rattle.registers.specs.Registers.{firstControl, powerOnCore, resetCore};
+ghost use Rattle.registers.specs.Registers.{firstControl, resetCore};
 ghost use Rattle.registers.specs.Modes.{settled};
 ghost use Rattle.image.specs.Image.{
   imageSize,
-  selectAt,
   modeOf,
   flightOf,
   flightNumber,
   requestNumber,
   controlOf,
   coreOf,
+  isChip,
+  powerOnBytes,
   Acted,
   Answered,
 };
@@ -34,6 +35,7 @@ use crate::TEC_HIGH;
 use crate::TXB0CTRL;
 use crate::TXB1CTRL;
 use crate::TXB2CTRL;
+use crate::VERSION;
 use registers::Control;
 use registers::Counters;
 use registers::Flags;
@@ -47,6 +49,9 @@ use registers::TxControl;
 
 // The byte of a request for nothing.
 const NO_REQUEST: u8 = 7;
+
+// The version of this layout.
+const THIS_VERSION: u8 = 1;
 
 pub fn mode_of(number: u8) -> Mode
     ensures { λ r. ⌜ r ≡ modeOf number ⌝ }
@@ -202,12 +207,23 @@ pub fn reset(image: &mut [u8])
 
 // Power-on, with the select line high.
 pub fn power_on() -> [u8; SIZE]
-    ensures { λ r. ⌜ (length r ≡ imageSize) × (coreOf r ≡ powerOnCore) × (drop selectAt r ≡ replicate 9 0) ⌝ }
+    ensures { λ r. ⌜ r ≡ powerOnBytes ⌝ }
 {
     let mut image = [0u8; SIZE];
     image[CANCTRL] = 135;
     image[MODE] = 4;
     image[FLIGHT] = 3;
     image[REQUEST] = NO_REQUEST;
+    image[VERSION] = THIS_VERSION;
     image
+}
+
+// Whether bytes are a chip: any image that bears this version.
+pub fn is_chip(bytes: &[u8]) -> bool
+    ensures { λ r. ⌜ r ≡ isChip (now (bytes .entry)) ⌝ }
+{
+    if bytes.len() != SIZE {
+        return false;
+    }
+    bytes[VERSION] == THIS_VERSION
 }

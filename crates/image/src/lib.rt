@@ -7,6 +7,7 @@ pub use addresses::place_of;
 pub use addresses::read;
 pub use control::control_of;
 pub use control::flight_of;
+pub use control::is_chip;
 pub use control::mode_of;
 pub use control::power_on;
 pub use control::put_control;
@@ -50,9 +51,12 @@ pub const FLIGHT: usize = 141;
 // The mode wanted, or 7.
 pub const REQUEST: usize = 142;
 
-// The select line with the open instruction, its address and its mask. The bytes behind them are spare.
+// The select line with the open instruction, its address and its mask. The bytes behind them are spare,
+// but the last.
 pub const SELECT: usize = 143;
 
 pub const ADDRESS: usize = 144;
 
 pub const MASK: usize = 145;
+
+pub const VERSION: usize = 151;

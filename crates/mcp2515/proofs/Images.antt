@@ -1,19 +1,19 @@
 -- A chip by value and its image. Assumes nothing.
+use mathlib.Core.Bool.{true}
 use mathlib.Core.List.{List, [], _∷_, _++_}
-use mathlib.Core.Path.{_≡_, ap, sym, _∙_}
+use mathlib.Core.Path.{_≡_, refl, ap, sym, _∙_}
 use Prim.Native.Nat.{ℕ, suc, _+_, _<_, _≤_}
 use native.Mathlib.Omega.{arith}
-use lib.ListN.{length, getD, set, take, drop, replicate, length-drop}
+use lib.ListN.{length, getD, set, take, drop, length-drop}
 use lib.Seq.{sets, sets-eq, length-sets, take-at, take-suc, take-suc-set, getD-drop}
 use Rattle.records.specs.declared.Fields.{Fields}
 use Rattle.records.specs.declared.Outcome.{Outcome}
 use Rattle.records.specs.Records.{recordOf}
 use Rattle.registers.specs.State.{withControl}
 use Rattle.registers.specs.Registers.{powerOnCore}
-use Rattle.image.specs.Image.{imageSize, selectAt, coreOf, Became, Acted, Answered}
+use Rattle.image.specs.Image.{imageSize, isChip, decoded, encoded, coreOf, powerOnBytes, Became, Acted, Answered}
 use Rattle.image.proofs.Laws.{slice-above, sets-kept, drop-sets, drop-past}
-use Rattle.spi.specs.declared.Select.the-variants.{Raised}
-use Rattle.spi.specs.Open.{selectOf, Turned, Selected}
+use Rattle.spi.specs.Open.{Turned, Selected}
 use Rattle.mcp2515.specs.declared.Chip.{Chip}
 use Rattle.mcp2515.specs.declared.Stepped.{Stepped}
 use Rattle.mcp2515.specs.Step.{powerOn, stepOf, outcome, nextChip}
@@ -57,10 +57,6 @@ packed-in z m n c e p q r a s =
     let t : Turned m n (coreOf m) (c .select) = s .image (w .size) in
     record { size = t .size; chip = rw (t .core, w .core, t .select, p, q, r) }
 
--- ---- zeros from the select line on: it is high
-pub raised-at : (m : List ℕ) → drop selectAt m ≡ replicate 9 0 → selectOf m ≡ Raised
-raised-at m e = let z : getD m 143 0 ≡ 0 = sym (getD-drop selectAt m 0 0) ∙ ap (λ (l : List ℕ). getD l 0 0) e in rw z
-
 -- ---- three parts stored one after the other
 filled-size : (m n vs : List ℕ) (at : ℕ) → n ≡ sets m at vs → length n ≡ length m
 filled-size m n vs at e = ap length e ∙ length-sets m at vs
@@ -87,9 +83,17 @@ bytes-in z a b d c t r l x y w p q s =
     )
 
 -- ---- power-on
-pub power-on-chip : (m : List ℕ) → coreOf m ≡ powerOnCore → drop selectAt m ≡ replicate 9 0 → chipOf m ≡ powerOn
-unfolding powerOn
-power-on-chip m p q = rw (p, raised-at m q)
+pub power-on-chip : chipOf powerOnBytes ≡ powerOn
+unfolding powerOn powerOnCore powerOnBytes encoded decoded
+power-on-chip = refl
+
+pub power-on-size : length powerOnBytes ≡ imageSize
+unfolding powerOnBytes encoded
+power-on-size = refl
+
+pub power-on-is-chip : isChip powerOnBytes ≡ true
+unfolding isChip powerOnBytes encoded
+power-on-is-chip = refl
 
 -- ---- a chip put in, stepped in place and taken out
 pub stepped-back : (m n : List ℕ) (c d : Chip) (f : Fields) (r : List ℕ) (o x : Outcome) → Packed m c → recordOf f ≡ r

@@ -4,7 +4,7 @@ ghost use Prim.Native.Nat.{_<_};
 ghost use lib.ListN.{length};
 ghost use Rattle.records.specs.Records.{recordOf};
 ghost use Rattle.registers.specs.Registers.{holds, reads, intIsLow};
-ghost use Rattle.image.specs.Image.{imageSize, coreOf, Answered};
+ghost use Rattle.image.specs.Image.{imageSize, coreOf, Answered, RefusedKept};
 ghost use Rattle.controller.specs.Events.{notAnImage};
 ghost use Rattle.spi.specs.Instructions.{acted};
 ghost use Rattle.spi.specs.Open.{selectOf, Turned};
@@ -84,6 +84,7 @@ fn step_low(image: &mut [u8]) -> Outcome
     requires { ⌜ length (now image) ≡ imageSize ⌝ }
     ensures { λ r. ⌜ r ≡ actOutcome (askedBy Kind.SelectLow (selectOf (now (image .entry))) 0) (coreOf (now (image .entry))) ⌝ }
     ensures { λ _. ⌜ Turned (now (image .entry)) (now (image .exit)) (acted (askedBy Kind.SelectLow (selectOf (now (image .entry))) 0) (coreOf (now (image .entry)))) (turnedBy Kind.SelectLow (selectOf (now (image .entry))) 0) ⌝ }
+    ensures { λ r. ⌜ RefusedKept (r .refusal) (now (image .entry)) (now (image .exit)) ⌝ }
 {
     if image[SELECT] == RAISED {
         spi::open(image);
@@ -96,6 +97,7 @@ fn step_exchange(image: &mut [u8], byte: u8) -> Outcome
     requires { ⌜ length (now image) ≡ imageSize ⌝ }
     ensures { λ r. ⌜ r ≡ actOutcome (askedBy Kind.Exchange (selectOf (now (image .entry))) byte) (coreOf (now (image .entry))) ⌝ }
     ensures { λ _. ⌜ Turned (now (image .entry)) (now (image .exit)) (acted (askedBy Kind.Exchange (selectOf (now (image .entry))) byte) (coreOf (now (image .entry)))) (turnedBy Kind.Exchange (selectOf (now (image .entry))) byte) ⌝ }
+    ensures { λ r. ⌜ RefusedKept (r .refusal) (now (image .entry)) (now (image .exit)) ⌝ }
 {
     if image[SELECT] == RAISED {
         return refuse(REFUSED_SELECT);
@@ -107,6 +109,7 @@ fn step_high(image: &mut [u8]) -> Outcome
     requires { ⌜ length (now image) ≡ imageSize ⌝ }
     ensures { λ r. ⌜ r ≡ actOutcome (askedBy Kind.SelectHigh (selectOf (now (image .entry))) 0) (coreOf (now (image .entry))) ⌝ }
     ensures { λ _. ⌜ Turned (now (image .entry)) (now (image .exit)) (acted (askedBy Kind.SelectHigh (selectOf (now (image .entry))) 0) (coreOf (now (image .entry)))) (turnedBy Kind.SelectHigh (selectOf (now (image .entry))) 0) ⌝ }
+    ensures { λ r. ⌜ RefusedKept (r .refusal) (now (image .entry)) (now (image .exit)) ⌝ }
 {
     if image[SELECT] == RAISED {
         return refuse(REFUSED_SELECT);
@@ -120,6 +123,7 @@ fn step_spi(image: &mut [u8], fields: Fields) -> Outcome
     requires { ⌜ (length (now image) ≡ imageSize) × (fields .kind < 3) ⌝ }
     ensures { λ r. ⌜ r ≡ outcome (chipOf (now (image .entry))) (recordOf fields) ⌝ }
     ensures { λ _. ⌜ Moved (now (image .entry)) (now (image .exit)) (nextChip (chipOf (now (image .entry))) (recordOf fields)) ⌝ }
+    ensures { λ r. ⌜ RefusedKept (r .refusal) (now (image .entry)) (now (image .exit)) ⌝ }
 {
     let number = fields.kind;
     if !records::is_sound_plain(records::kind_by(number), fields) {
@@ -139,6 +143,7 @@ fn step_spi(image: &mut [u8], fields: Fields) -> Outcome
 pub fn step_in_place(image: &mut [u8], fields: Fields) -> Outcome
     ensures { λ r. ⌜ Answered (now (image .entry)) r (outcome (chipOf (now (image .entry))) (recordOf fields)) notAnImage ⌝ }
     ensures { λ _. ⌜ Advanced (now (image .entry)) (now (image .exit)) (nextChip (chipOf (now (image .entry))) (recordOf fields)) ⌝ }
+    ensures { λ r. ⌜ RefusedKept (r .refusal) (now (image .entry)) (now (image .exit)) ⌝ }
 {
     if image.len() != SIZE {
         return Outcome {

@@ -1,5 +1,5 @@
 -- Refused, the run answers minus the refusal; else the records are run, and what they leave in the buffer is as the definition says. Assumes nothing.
-use mathlib.Core.Path.{_≡_, sym, _∙_}
+use mathlib.Core.Path.{_≡_, ap, sym, _∙_}
 use native.Mathlib.Omega.{arith}
 use borrow.Author.Needs.{needs}
 use borrow.Author.Tests.{lt-ltb}
@@ -7,7 +7,7 @@ use lib.ListN.{length}
 use mir.Syntax.{w64}
 use mir.Facts.{toZ-pos}
 use Rattle.mcp2515.specs.Step.{powerOn}
-use Rattle.mcp2515.proofs.Images.{power-on-chip}
+use Rattle.mcp2515.proofs.Images.{power-on-chip, power-on-size}
 use Rattle.bus_log.specs.Log.{recordsIn}
 use Rattle.bus_log.specs.Run.{runRefusal, runResult, runAnswers}
 use Rattle.bus_log.proofs.Answers.{answers-first}
@@ -37,13 +37,13 @@ power-on-requires : tie.Need-power-on-requires
 power-on-requires c κs = search needs
 
 slice-aggregate-run-records : tie.Need-slice-aggregate-run-records
-slice-aggregate-run-records c = sym (c .before .power-on .ensures .0)
+slice-aggregate-run-records c = sym (ap length (c .before .power-on .ensures) ∙ power-on-size)
 
 run-records-requires : tie.Need-run-records-requires
 run-records-requires c κs =
     let a = c .before .before .before .before .before .before .before .args in
     let none : runRefusal (length (a .log .now)) (length (a .answers .now)) ≡ 0 = omega arith in
-    (c .before .before .power-on .ensures .0, omega arith, accepted-room _ _ none)
+    (ap length (c .before .before .power-on .ensures) ∙ power-on-size, omega arith, accepted-room _ _ none)
 
 cast-result-2 : tie.Need-cast-result-2
 cast-result-2 c = search needs
@@ -57,8 +57,7 @@ returns-2 c =
     let a = c .before .before .before .before .before .before .before .before .before .before .before .args in
     let none : runRefusal (length (a .log .now)) (length (a .answers .now)) ≡ 0 = omega arith in
     let n = recordsIn (length (a .log .now)) in
-    let w = c .before .before .before .before .before .before .power-on .ensures in
-    let ran = rw (power-on-chip (c .before .before .before .before .before .before .power-on .result) (w .1) (w .2)) at (c .before .before .before .run-records .ensures) in
+    let ran = rw (c .before .before .before .before .before .before .power-on .ensures, power-on-chip) at (c .before .before .before .run-records .ensures) in
     (rw none (toZ-pos w64 (omega arith)), rw none (ran ∙ answers-first n powerOn (a .log .now) (a .answers .now) (accepted-room _ _ none)))
 
 pub mcp2515-run-log-spec : {M : Type 1} → statement M

@@ -65,7 +65,7 @@ loop-again c =
     let s = stepOf (chipOf (l .image)) r in
     let rest = stepsOf (l .left - 1) (s .chip) (drop (l .at + recordSize) log) in
     let took = c .before .before .before .fields-within .ensures ∙ sym (record-within log (l .at) (omega arith)) in
-    let w = ran (l .image) (c .before .before .step-in-place .last .0) (c .before .before .before .fields-within .result) r (l .answers) (l .out) (c .before .before .step-in-place .result) _ (l .inv .0) took (c .before .before .step-in-place .ensures .0) (c .before .before .step-in-place .ensures .1) in
+    let w = ran (l .image) (c .before .before .step-in-place .last .0) (c .before .before .before .fields-within .result) r (l .answers) (l .out) (c .before .before .step-in-place .result) _ (l .inv .0) took (c .before .before .step-in-place .ensures .0) (c .before .before .step-in-place .ensures .1 .0) in
     let kept : length (sets (l .answers) (l .out) (answersOf (s ∷ []))) ≡ length (l .answers) = length-sets (l .answers) (l .out) (answersOf (s ∷ [])) in (
       w .size,
       omega arith,

@@ -77,7 +77,7 @@ loop-again c =
     let o = c .before .before .before .before .before .step-in-place .result in
     let m = l .image in
     let after = c .before .before .before .before .before .step-in-place .last .0 in
-    let moved = c .before .before .before .before .before .step-in-place .ensures .1 in
+    let moved = c .before .before .before .before .before .step-in-place .ensures .1 .0 in
     let s : Stepped = record { chip = chipOf after; refusal = o .refusal; answer = o .answer } in
     let stepped : s ≡ stepOf (chipOf m) (recordAt part (l .at)) = stepped-back m after (chipOf m) (chipOf after) (c .before .before .before .before .before .before .fields-at .result) (recordAt part (l .at)) o _ (record { size = l .inv .4; chip = refl }) (c .before .before .before .before .before .before .fields-at .ensures) (c .before .before .before .before .before .step-in-place .ensures .0) moved refl in
     let line = c .before .before .put-line .ensures in

@@ -12,7 +12,7 @@ use Rattle.controller.proofs.events.event.Statement.{statement}
 use Rattle.controller.proofs.events.event.Tie as tie
 
 returns : tie.Need-returns
-returns c = (unanswered (c .if1 .taken) refl, passed (c .if1 .taken))
+returns c = (unanswered (c .if1 .taken) refl, (passed (c .if1 .taken), λ _. refl))
 
 control-of-requires : tie.Need-control-of-requires
 control-of-requires c κs = search needs
@@ -30,7 +30,7 @@ returns-2 c =
     let size = c .before .before .before .before .if1 .left in
     let e : c .before .refuse .result ≡ eventRefusal (controlOf (a .image .now)) (recordOf (a .fields)) =
     c .before .refuse .ensures ∙ ap (λ (x : Control). eventRefusal x (recordOf (a .fields))) (c .before .before .control-of .ensures .image size) in
-    simp (← e, ne-eqb _ _ (c .if2 .taken)) (answered size refl, acted size (unchanged (a .image .now) size))
+    simp (← e, ne-eqb _ _ (c .if2 .taken)) (answered size refl, (acted size (unchanged (a .image .now) size), λ _. refl))
 
 kind-by-requires : tie.Need-kind-by-requires
 kind-by-requires c κs = search needs
@@ -54,7 +54,7 @@ returns-3 c =
     let k : c .before .before .before .before .before .before .before .kind-by .result ≡ kindOf (recordOf (a .fields)) = c .before .before .before .before .before .before .before .kind-by .ensures ∙ sym (kind-field (a .fields)) in
     let h = c .before .before .before .before .before .before .happen .ensures in
     simp (← e, eq-eqb _ _ (c .before .before .before .before .before .before .before .before .before .if2 .left), ← k)
-    (answered size (simp (h .0)), acted size (followed settledCore (h .1) (c .before .before .settle .ensures .image (h .1 .size))))
+    (answered size (simp (h .0)), (acted size (followed settledCore (h .1) (c .before .before .settle .ensures .image (h .1 .size))), λ refused. absurd (refused refl)))
 
 pub event-spec : {M : Type 1} → statement M
 event-spec =

@@ -1,6 +1,5 @@
 use mathlib.Core.Path.{refl}
-use Rattle.registers.specs.Registers.{powerOnCore}
-use Rattle.image.specs.Image.{decoded}
+use Rattle.image.specs.Image.{encoded, powerOnBytes}
 use borrow.Author.Needs.{needs}
 use Rattle.image.proofs.control.power_on.Statement.{statement}
 use Rattle.image.proofs.control.power_on.Tie as tie
@@ -17,9 +16,12 @@ array-write-image-3 c = search needs
 array-write-image-4 : tie.Need-array-write-image-4
 array-write-image-4 c = search needs
 
+array-write-image-5 : tie.Need-array-write-image-5
+array-write-image-5 c = search needs
+
 returns : tie.Need-returns
-unfolding powerOnCore decoded
-returns c = (refl, refl, refl)
+unfolding powerOnBytes encoded
+returns c = refl
 
 pub power-on-spec : {M : Type 1} → statement M
 power-on-spec =
@@ -29,4 +31,5 @@ power-on-spec =
     array-write-image-2
     array-write-image-3
     array-write-image-4
+    array-write-image-5
     returns)

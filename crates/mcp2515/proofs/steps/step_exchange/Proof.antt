@@ -1,8 +1,9 @@
-use mathlib.Core.Path.{_∙_}
+use mathlib.Core.Path.{refl, ap, _∙_}
 use borrow.Author.Tests.{ne-eqb}
 use Rattle.spi.specs.Open.{openOf}
 use Rattle.spi.proofs.Turns.{open-of, exchange-accepted}
 use Rattle.spi.proofs.Turns.{lined, turned-by}
+use Rattle.records.specs.declared.Outcome.{Outcome}
 use borrow.Author.Needs.{needs}
 use Rattle.mcp2515.proofs.steps.step_exchange.Statement.{statement}
 use Rattle.mcp2515.proofs.steps.step_exchange.Tie as tie
@@ -14,7 +15,7 @@ refuse-requires : tie.Need-refuse-requires
 refuse-requires c κs = search needs
 
 returns : tie.Need-returns
-returns c = (rw (c .before .if1 .taken) (c .refuse .ensures), rw (c .before .if1 .taken) (rw (c .before .if1 .taken) at (turned-by (lined (c .before .before .before .before .args .image .now) (c .before .before .before .before .pre)))))
+returns c = (rw (c .before .if1 .taken) (c .refuse .ensures), (rw (c .before .if1 .taken) (rw (c .before .if1 .taken) at (turned-by (lined (c .before .before .before .before .args .image .now) (c .before .before .before .before .pre)))), λ _. refl))
 
 exchange-requires : tie.Need-exchange-requires
 exchange-requires c κs = search needs
@@ -26,7 +27,7 @@ same-length : tie.Need-same-length
 same-length c = search needs
 
 returns-2 : tie.Need-returns-2
-returns-2 c = let m = c .before .before .before .before .before .before .before .before .args .image .now in let p = open-of m (c .before .before .before .before .before .if1 .left) in rw (ne-eqb _ 0 (c .before .before .before .before .before .if1 .left)) (c .accept .ensures ∙ rw (exchange-accepted (openOf m) (c .before .before .before .before .before .before .before .before .args .byte), c .before .before .before .exchange .ensures .reply (c .before .before .before .before .before .before .before .before .pre) (openOf m) p), c .before .before .before .exchange .ensures .image (c .before .before .before .before .before .before .before .before .pre) (openOf m) p)
+returns-2 c = let m = c .before .before .before .before .before .before .before .before .args .image .now in let p = open-of m (c .before .before .before .before .before .if1 .left) in rw (ne-eqb _ 0 (c .before .before .before .before .before .if1 .left)) (c .accept .ensures ∙ rw (exchange-accepted (openOf m) (c .before .before .before .before .before .before .before .before .args .byte), c .before .before .before .exchange .ensures .reply (c .before .before .before .before .before .before .before .before .pre) (openOf m) p), (c .before .before .before .exchange .ensures .image (c .before .before .before .before .before .before .before .before .pre) (openOf m) p, λ refused. absurd (refused (ap (λ (o : Outcome). o .refusal) (c .accept .ensures)))))
 
 pub step-exchange-spec : {M : Type 1} → statement M
 step-exchange-spec =

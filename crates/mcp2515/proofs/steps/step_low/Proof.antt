@@ -1,7 +1,8 @@
-use mathlib.Core.Path.{refl}
+use mathlib.Core.Path.{refl, ap}
 use borrow.Author.Tests.{ne-eqb}
 use Rattle.spi.specs.Open.{openOf}
 use Rattle.spi.proofs.Turns.{stayed}
+use Rattle.records.specs.declared.Outcome.{Outcome}
 use borrow.Author.Needs.{needs}
 use Rattle.mcp2515.proofs.steps.step_low.Statement.{statement}
 use Rattle.mcp2515.proofs.steps.step_low.Tie as tie
@@ -19,13 +20,13 @@ same-length : tie.Need-same-length
 same-length c = search needs
 
 returns : tie.Need-returns
-returns c = rw (c .before .before .before .before .before .if1 .taken) (c .accept .ensures, c .before .before .before .«open» .ensures .image (c .before .before .before .before .before .before .before .before .pre))
+returns c = rw (c .before .before .before .before .before .if1 .taken) (c .accept .ensures, (c .before .before .before .«open» .ensures .image (c .before .before .before .before .before .before .before .before .pre), λ refused. absurd (refused (ap (λ (o : Outcome). o .refusal) (c .accept .ensures)))))
 
 refuse-requires : tie.Need-refuse-requires
 refuse-requires c κs = search needs
 
 returns-2 : tie.Need-returns-2
-returns-2 c = rw (ne-eqb _ 0 (c .before .if1 .left)) (c .refuse .ensures, stayed (c .before .before .before .before .args .image .now) (openOf (c .before .before .before .before .args .image .now)) (c .before .before .before .before .pre) (c .before .if1 .left) refl)
+returns-2 c = rw (ne-eqb _ 0 (c .before .if1 .left)) (c .refuse .ensures, (stayed (c .before .before .before .before .args .image .now) (openOf (c .before .before .before .before .args .image .now)) (c .before .before .before .before .pre) (c .before .if1 .left) refl, λ _. refl))
 
 pub step-low-spec : {M : Type 1} → statement M
 step-low-spec =
