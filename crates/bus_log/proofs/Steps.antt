@@ -38,6 +38,13 @@ next-step (suc n) c log at more fits =
     let less : suc n - 1 ≡ n = omega arith in
     simp (record-within log at within, less, drop-drop recordSize at log)
 
+-- the chip after them
+pub next-chip : (left : ℕ) (c : Chip) (log : List ℕ) (at : ℕ) → 0 < left → at + left * recordSize ≤ length log
+    → lastChip c (stepsOf left c (drop at log))
+    ≡ lastChip (stepOf c (recordAt log at) .chip) (stepsOf (left - 1) (stepOf c (recordAt log at) .chip) (drop (at + recordSize) log))
+unfolding lastChip
+next-chip left c log at more fits = rw (next-step left c log at more fits)
+
 pub length-steps : (n : ℕ) (c : Chip) (log : List ℕ) → length (stepsOf n c log) ≡ n
 unfolding stepsOf
 length-steps zero c log = refl

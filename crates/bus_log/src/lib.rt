@@ -5,8 +5,8 @@ ghost use lib.ListN.{length, take, drop, replicate};
 ghost use lib.Seq.{sets};
 ghost use Rattle.records.specs.Records.{recordOf};
 ghost use Rattle.image.specs.Image.{imageSize};
-ghost use Rattle.mcp2515.specs.ChipImage.{chipOf};
-ghost use Rattle.bus_log.specs.Log.{recordSize, recordAt, stepsOf, answersOf};
+ghost use Rattle.mcp2515.specs.ChipImage.{chipOf, Moved};
+ghost use Rattle.bus_log.specs.Log.{recordSize, recordAt, stepsOf, lastChip, answersOf};
 ghost use Rattle.bus_log.specs.Run.{answerRoom, runRefusal, runResult, runAnswers};
 use records::Fields;
 
@@ -83,6 +83,7 @@ pub fn fields_at(log: &[u8], at: usize) -> Fields
 fn run_records<'a>(image: &'a mut [u8], log: &'a [u8], answers: &'a mut [u8], count: usize)
     requires { ⌜ (length (now image) ≡ imageSize) × (count * recordSize ≤ length (now log)) × (answerRoom count ≤ length (now answers)) ⌝ }
     ensures { λ _. ⌜ now (answers .exit) ≡ sets (now (answers .entry)) 0 (answersOf (stepsOf count (chipOf (now (image .entry))) (now (log .entry)))) ⌝ }
+    ensures { λ _. ⌜ Moved (now (image .entry)) (now (image .exit)) (lastChip (chipOf (now (image .entry))) (stepsOf count (chipOf (now (image .entry))) (now (log .entry)))) ⌝ }
 {
     let mut left = count;
     let mut at = 0;

@@ -57,7 +57,7 @@ returns-2 c =
     let a = c .before .before .before .before .before .before .before .before .before .before .before .args in
     let none : runRefusal (length (a .log .now)) (length (a .answers .now)) ≡ 0 = omega arith in
     let n = recordsIn (length (a .log .now)) in
-    let ran = rw (c .before .before .before .before .before .before .power-on .ensures, power-on-chip) at (c .before .before .before .run-records .ensures) in
+    let ran = rw (c .before .before .before .before .before .before .power-on .ensures, power-on-chip) at (c .before .before .before .run-records .ensures .0) in
     (rw none (toZ-pos w64 (omega arith)), rw none (ran ∙ answers-first n powerOn (a .log .now) (a .answers .now) (accepted-room _ _ none)))
 
 pub mcp2515-run-log-spec : {M : Type 1} → statement M

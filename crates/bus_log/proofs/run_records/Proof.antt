@@ -7,11 +7,11 @@ use lib.Seq.{sets, length-sets}
 use Rattle.image.specs.Image.{imageSize}
 use Rattle.mcp2515.specs.Step.{stepOf}
 use Rattle.mcp2515.specs.ChipImage.{chipOf}
-use Rattle.bus_log.specs.Log.{recordSize, recordAt, stepsOf, answersOf}
+use Rattle.bus_log.specs.Log.{recordSize, recordAt, stepsOf, lastChip, answersOf}
 use Rattle.bus_log.specs.Run.{answerRoom}
 use Rattle.bus_log.proofs.Advance.{ran}
 use Rattle.bus_log.proofs.Answers.{store-step}
-use Rattle.bus_log.proofs.Steps.{record-within, next-step}
+use Rattle.bus_log.proofs.Steps.{record-within, next-step, next-chip}
 use borrow.Author.Needs.{needs}
 use Rattle.bus_log.proofs.run_records.Statement.{statement}
 use Rattle.bus_log.proofs.run_records.Tie as tie
@@ -23,12 +23,14 @@ Inv-loop image₀ log answers₀ count left₀ at₀ out₀ image answers left a
     × (out + answerRoom left ≤ length answers)
     × (length answers ≡ length answers₀)
     × (sets answers out (answersOf (stepsOf left (chipOf image) (drop at log))) ≡ sets answers₀ 0 (answersOf (stepsOf count (chipOf image₀) log)))
+    × (drop 146 image ≡ drop 146 image₀)
+    × (lastChip (chipOf image) (stepsOf left (chipOf image) (drop at log)) ≡ lastChip (chipOf image₀) (stepsOf count (chipOf image₀) log))
 
 abbrev μ-loop : tie.MeasureT-loop
 μ-loop image₀ log answers₀ count left₀ at₀ out₀ image answers left at out = left
 
 loop-holds : tie.Need-loop-holds Inv-loop μ-loop
-loop-holds c = (c .before .before .before .pre .0, omega arith, omega arith, refl, refl)
+loop-holds c = (c .before .before .before .pre .0, omega arith, omega arith, refl, refl, refl, refl)
 
 add-second : tie.Need-add-second Inv-loop μ-loop
 add-second c = search needs
@@ -74,6 +76,8 @@ loop-again c =
       rw (w .stored, w .after)
           (store-step (l .answers) (l .out) s rest
           ∙ rw (← next-step (l .left) (chipOf (l .image)) log (l .at) (omega arith) (omega arith)) (l .inv .4)),
+      w .spare ∙ l .inv .5,
+      rw (w .after) (sym (next-chip (l .left) (chipOf (l .image)) log (l .at) (omega arith) (omega arith)) ∙ l .inv .6),
     )
 
 same-length : tie.Need-same-length Inv-loop μ-loop
@@ -83,8 +87,11 @@ same-length-2 : tie.Need-same-length-2 Inv-loop μ-loop
 same-length-2 c = c .before .loop .inv .3
 
 returns : tie.Need-returns Inv-loop μ-loop
-unfolding stepsOf answersOf
-returns c = let none : c .before .loop .left ≡ 0 = omega arith in rw none at (c .before .loop .inv .4)
+unfolding stepsOf answersOf lastChip
+returns c =
+    let l = c .before .loop in
+    let none : l .left ≡ 0 = omega arith in
+    (rw none at (l .inv .4), record { packed = record { size = l .inv .0; chip = rw none at (l .inv .6) }; spare = l .inv .5 })
 
 pub run-records-spec : {M : Type 1} → statement M
 run-records-spec =
