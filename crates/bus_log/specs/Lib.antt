@@ -1,2 +1,4 @@
 pub mod Log
 pub mod Run
+pub mod Held
+pub mod From

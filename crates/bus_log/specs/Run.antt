@@ -1,10 +1,11 @@
--- The run of a whole log from power-on. Assumes nothing: these are definitions.
+-- The run of a whole log: its refusal, its result and its answers. Assumes nothing: these are definitions.
 use mathlib.Core.Bool.{cond}
 use mathlib.Core.List.{List, _++_}
 use Prim.Native.Nat.{ℕ, _*_, _%_}
 use lib.Dec.{ltb}
 use lib.IntN.{ℤ, pos, negℤ}
 use lib.ListN.{length, drop}
+use Rattle.mcp2515.specs.declared.Chip.{Chip}
 use Rattle.mcp2515.specs.Step.{powerOn}
 use Rattle.bus_log.specs.Log.{recordSize, maxRecords, lengthRefusal, roomRefusal, countRefusal, recordsIn, stepsOf, answersOf}
 
@@ -19,13 +20,20 @@ runRefusal size room =
     (cond (ltb maxRecords (recordsIn size)) countRefusal
     (cond (ltb room (answerRoom (recordsIn size))) roomRefusal 0))
 
--- the result of the run: the number of records, or minus the refusal
-unfoldable pub runResult : ℕ → ℕ → ℤ
-runResult size room =
-    cond (ltb 0 (runRefusal size room)) (negℤ (pos (runRefusal size room))) (pos (recordsIn size))
+-- what a call for C returns: minus the refusal, or where that is 0 its value
+abbrev pub callResult : ℕ → ℕ → ℤ
+callResult refusal value = cond (ltb 0 refusal) (negℤ (pos refusal)) (pos value)
 
--- the answer buffer after the run: the answers and then what it held past them, or, refused, all that it held
+-- the answer buffer after a run from the chip c: the answers and then what it held past them, or, refused, all that it held
+abbrev pub answersAfter : ℕ → Chip → List ℕ → List ℕ → List ℕ
+answersAfter refusal c log answers =
+    cond (ltb 0 refusal) answers
+    (answersOf (stepsOf (recordsIn (length log)) c log) ++ drop (answerRoom (recordsIn (length log))) answers)
+
+-- ---- from power-on
+-- the result: the number of records, or minus the refusal
+unfoldable pub runResult : ℕ → ℕ → ℤ
+runResult size room = callResult (runRefusal size room) (recordsIn size)
+
 unfoldable pub runAnswers : List ℕ → List ℕ → List ℕ
-runAnswers log answers =
-    cond (ltb 0 (runRefusal (length log) (length answers))) answers
-    (answersOf (stepsOf (recordsIn (length log)) powerOn log) ++ drop (answerRoom (recordsIn (length log))) answers)
+runAnswers log answers = answersAfter (runRefusal (length log) (length answers)) powerOn log answers

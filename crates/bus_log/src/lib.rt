@@ -1,13 +1,17 @@
-// A recorded bus log, run through the chip from power-on, and the call for C.
+// A recorded bus log, run through the chip from power-on or from a chip that a C program holds, and the
+// calls for C.
 ghost use mathlib.Core.Path.{_≡_};
 ghost use Prim.Native.Nat.{_+_, _*_, _≤_};
 ghost use lib.ListN.{length, take, drop, replicate};
 ghost use lib.Seq.{sets};
+ghost use lib.IntN.{pos, negℤ};
 ghost use Rattle.records.specs.Records.{recordOf};
 ghost use Rattle.image.specs.Image.{imageSize};
 ghost use Rattle.mcp2515.specs.ChipImage.{chipOf, Moved};
 ghost use Rattle.bus_log.specs.Log.{recordSize, recordAt, stepsOf, lastChip, answersOf};
 ghost use Rattle.bus_log.specs.Run.{answerRoom, runRefusal, runResult, runAnswers};
+ghost use Rattle.bus_log.specs.Held.{heldRefusal};
+ghost use Rattle.bus_log.specs.From.{RunningFrom};
 use records::Fields;
 
 pub const RECORD_SIZE: usize = 16;
@@ -26,6 +30,9 @@ pub const ROOM_REFUSAL: u8 = 7;
 
 // There are more records than a log may have.
 pub const COUNT_REFUSAL: u8 = 8;
+
+// The bytes are no chip.
+pub const CHIP_REFUSAL: u8 = 21;
 
 // The record at a place of the log, taken apart.
 fn fields_within(log: &[u8], at: usize) -> Fields
@@ -117,20 +124,50 @@ fn run_refusal(size: usize, room: usize) -> u8
     0
 }
 
-// Runs a whole log from power-on for C: stores refusal and answer of each record and returns the
-// number of records, or stores nothing and returns minus the refusal.
+// The refusal of a call that is lent a chip: bytes that are no chip come first, then what else it refuses.
+pub fn held_refusal(chip: &[u8], refusal: u8) -> u8
+    ensures { λ r. ⌜ r ≡ heldRefusal (now (chip .entry)) refusal ⌝ }
+{
+    if image::is_chip(chip) {
+        refusal
+    } else {
+        CHIP_REFUSAL
+    }
+}
+
+// What a refused call returns to C.
+pub fn minus(refusal: u8) -> i64
+    ensures { λ r. ⌜ r ≡ negℤ (pos refusal) ⌝ }
+{
+    -(refusal as i64)
+}
+
+// Runs a log from the chip that is lent and leaves the chip after it there: stores refusal and answer of
+// each record and returns the number of records, or changes nothing and returns minus the refusal.
+#[no_mangle]
+pub extern "C" fn mcp2515_run_from<'a>(
+    chip: &'a mut [u8],
+    log: &'a [u8],
+    answers: &'a mut [u8],
+) -> i64
+    ensures { λ r. ⌜ RunningFrom (now (chip .entry)) (now (log .entry)) (now (answers .entry)) (now (chip .exit)) (now (answers .exit)) r ⌝ }
+{
+    let size = log.len();
+    let refusal = held_refusal(chip, run_refusal(size, answers.len()));
+    if refusal > 0 {
+        return minus(refusal);
+    }
+    let count = size / RECORD_SIZE;
+    run_records(chip, log, answers, count);
+    count as i64
+}
+
+// The same from power-on, with no chip to hold.
 #[no_mangle]
 pub extern "C" fn mcp2515_run_log(log: &[u8], answers: &mut [u8]) -> i64
     ensures result { λ r. ⌜ r ≡ runResult (length (now (log .entry))) (length (now (answers .entry))) ⌝ }
     ensures buffer { λ _. ⌜ now (answers .exit) ≡ runAnswers (now (log .entry)) (now (answers .entry)) ⌝ }
 {
-    let size = log.len();
-    let refusal = run_refusal(size, answers.len());
-    if refusal > 0 {
-        return -(refusal as i64);
-    }
-    let count = size / RECORD_SIZE;
     let mut image = image::power_on();
-    run_records(&mut image, log, answers, count);
-    count as i64
+    mcp2515_run_from(&mut image, log, answers)
 }
