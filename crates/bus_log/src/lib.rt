@@ -20,7 +20,7 @@ pub const RECORD_SIZE: usize = 16;
 pub const MAX_RECORDS: usize = 65535;
 
 // Refusal and answer of a record.
-const ANSWER_SIZE: usize = 2;
+pub const ANSWER_SIZE: usize = 2;
 
 // The length is no multiple of the record size.
 pub const LENGTH_REFUSAL: u8 = 6;

@@ -1,0 +1,117 @@
+// The calls of a C program that holds a chip as bytes of its own. The run of a log is in bus_log.
+ghost use mathlib.Core.Path.{_≡_};
+ghost use Prim.Native.Nat.{_≤_};
+ghost use lib.ListN.{length};
+ghost use lib.Seq.{sets};
+ghost use Rattle.registers.specs.Registers.{holds, reads, intIsLow};
+ghost use Rattle.mcp2515.specs.ChipImage.{chipOf};
+ghost use Rattle.stand_in.specs.StandIn.{
+  powerResult,
+  powerBytes,
+  PowerOnHeld,
+  recordRefusal,
+  StepHeld,
+  heldAnswer,
+  flagged,
+};
+use bus_log::ANSWER_SIZE;
+use bus_log::CHIP_REFUSAL;
+use bus_log::LENGTH_REFUSAL;
+use bus_log::RECORD_SIZE;
+use bus_log::ROOM_REFUSAL;
+use image::SIZE;
+
+// Too little room for a chip.
+const SHORT_REFUSAL: u8 = 19;
+
+fn put_first<'a>(room: &'a mut [u8], bytes: &'a [u8])
+    requires { ⌜ length (now bytes) ≤ length (now room) ⌝ }
+    ensures { λ _. ⌜ now (room .exit) ≡ sets (now (room .entry)) 0 (now (bytes .entry)) ⌝ }
+{
+    let mut i = 0;
+    while i < bytes.len() {
+        room[i] = bytes[i];
+        i += 1;
+    }
+}
+
+// A chip as power-on leaves it: returns the bytes used, or changes nothing and returns minus 19.
+#[no_mangle]
+pub extern "C" fn mcp2515_power_on(chip: &mut [u8]) -> i64
+    ensures result { λ r. ⌜ r ≡ powerResult (now (chip .entry)) ⌝ }
+    ensures bytes { λ _. ⌜ (now (chip .exit) ≡ powerBytes (now (chip .entry))) × PowerOnHeld ⌝ }
+{
+    if chip.len() < SIZE {
+        return bus_log::minus(SHORT_REFUSAL);
+    }
+    let image = image::power_on();
+    put_first(chip, &image);
+    SIZE as i64
+}
+
+// Why a record of size bytes, with room for so many answer bytes, is refused; 0 where it is not.
+fn record_refusal(size: usize, room: usize) -> u8
+    ensures { λ r. ⌜ r ≡ recordRefusal size room ⌝ }
+{
+    if size != RECORD_SIZE {
+        return LENGTH_REFUSAL;
+    }
+    if room < ANSWER_SIZE {
+        return ROOM_REFUSAL;
+    }
+    0
+}
+
+// One record: stores its refusal and answer and returns 2, or changes nothing and returns minus the
+// refusal of the call.
+#[no_mangle]
+pub extern "C" fn mcp2515_step<'a>(
+    chip: &'a mut [u8],
+    record: &'a [u8],
+    answer: &'a mut [u8],
+) -> i64
+    ensures { λ x. ⌜ StepHeld (now (chip .entry)) (now («record» .entry)) (now (answer .entry)) (now (chip .exit)) (now (answer .exit)) x ⌝ }
+{
+    let refusal = bus_log::held_refusal(chip, record_refusal(record.len(), answer.len()));
+    if refusal > 0 {
+        return bus_log::minus(refusal);
+    }
+    let told = mcp2515::step_in_place(chip, bus_log::fields_at(record, 0));
+    answer[0] = told.refusal;
+    answer[1] = told.answer;
+    ANSWER_SIZE as i64
+}
+
+// What an address holds.
+#[no_mangle]
+pub extern "C" fn mcp2515_hold(chip: &[u8], address: u8) -> i64
+    ensures { λ r. ⌜ r ≡ heldAnswer (now (chip .entry)) (holds (chipOf (now (chip .entry)) .core) address) ⌝ }
+{
+    if image::is_chip(chip) {
+        return image::hold(chip, address) as i64;
+    }
+    bus_log::minus(CHIP_REFUSAL)
+}
+
+// What a READ of an address replies.
+#[no_mangle]
+pub extern "C" fn mcp2515_read(chip: &[u8], address: u8) -> i64
+    ensures { λ r. ⌜ r ≡ heldAnswer (now (chip .entry)) (reads (chipOf (now (chip .entry)) .core) address) ⌝ }
+{
+    if image::is_chip(chip) {
+        return image::read(chip, address) as i64;
+    }
+    bus_log::minus(CHIP_REFUSAL)
+}
+
+// Whether the INT line is low: 1 or 0.
+#[no_mangle]
+pub extern "C" fn mcp2515_int_is_low(chip: &[u8]) -> i64
+    ensures { λ r. ⌜ r ≡ heldAnswer (now (chip .entry)) (flagged (intIsLow (chipOf (now (chip .entry)) .core .control))) ⌝ }
+{
+    if image::is_chip(chip) {
+        let control = image::control_of(chip);
+        return registers::int_is_low(control) as i64;
+    }
+    bus_log::minus(CHIP_REFUSAL)
+}
