@@ -1,5 +1,4 @@
-// A recorded bus log, run through the chip from power-on or from a chip that a C program holds, and the
-// calls for C.
+// A recorded bus log, run through the chip from power-on or from a chip that a C program holds.
 ghost use mathlib.Core.Path.{_≡_};
 ghost use Prim.Native.Nat.{_+_, _*_, _≤_};
 ghost use lib.ListN.{length, take, drop, replicate};
@@ -144,12 +143,7 @@ pub fn minus(refusal: u8) -> i64
 
 // Runs a log from the chip that is lent and leaves the chip after it there: stores refusal and answer of
 // each record and returns the number of records, or changes nothing and returns minus the refusal.
-#[no_mangle]
-pub extern "C" fn mcp2515_run_from<'a>(
-    chip: &'a mut [u8],
-    log: &'a [u8],
-    answers: &'a mut [u8],
-) -> i64
+pub fn run_from<'a>(chip: &'a mut [u8], log: &'a [u8], answers: &'a mut [u8]) -> i64
     ensures { λ r. ⌜ RunningFrom (now (chip .entry)) (now (log .entry)) (now (answers .entry)) (now (chip .exit)) (now (answers .exit)) r ⌝ }
 {
     let size = log.len();
@@ -169,5 +163,5 @@ pub extern "C" fn mcp2515_run_log(log: &[u8], answers: &mut [u8]) -> i64
     ensures buffer { λ _. ⌜ now (answers .exit) ≡ runAnswers (now (log .entry)) (now (answers .entry)) ⌝ }
 {
     let mut image = image::power_on();
-    mcp2515_run_from(&mut image, log, answers)
+    run_from(&mut image, log, answers)
 }

@@ -1,10 +1,13 @@
-// The calls of a C program that holds a chip as bytes of its own. The run of a log is in bus_log.
+// The calls of a C program that holds a chip as bytes of its own. The archive of this crate has the calls
+// marked here and no others, so the runs of bus_log stand here once more.
 ghost use mathlib.Core.Path.{_≡_};
 ghost use Prim.Native.Nat.{_≤_};
 ghost use lib.ListN.{length};
 ghost use lib.Seq.{sets};
 ghost use Rattle.registers.specs.Registers.{holds, reads, intIsLow};
 ghost use Rattle.mcp2515.specs.ChipImage.{chipOf};
+ghost use Rattle.bus_log.specs.Run.{runResult, runAnswers};
+ghost use Rattle.bus_log.specs.From.{RunningFrom};
 ghost use Rattle.stand_in.specs.StandIn.{
   powerResult,
   powerBytes,
@@ -80,6 +83,28 @@ pub extern "C" fn mcp2515_step<'a>(
     answer[0] = told.refusal;
     answer[1] = told.answer;
     ANSWER_SIZE as i64
+}
+
+// A log from the chip that is lent, which is left as the log leaves it: stores refusal and answer of each
+// record and returns the number of records, or changes nothing and returns minus the refusal.
+#[no_mangle]
+pub extern "C" fn mcp2515_run_from<'a>(
+    chip: &'a mut [u8],
+    log: &'a [u8],
+    answers: &'a mut [u8],
+) -> i64
+    ensures { λ r. ⌜ RunningFrom (now (chip .entry)) (now (log .entry)) (now (answers .entry)) (now (chip .exit)) (now (answers .exit)) r ⌝ }
+{
+    bus_log::run_from(chip, log, answers)
+}
+
+// A log from power-on, with no chip to hold.
+#[no_mangle]
+pub extern "C" fn mcp2515_run_log(log: &[u8], answers: &mut [u8]) -> i64
+    ensures result { λ r. ⌜ r ≡ runResult (length (now (log .entry))) (length (now (answers .entry))) ⌝ }
+    ensures buffer { λ _. ⌜ now (answers .exit) ≡ runAnswers (now (log .entry)) (now (answers .entry)) ⌝ }
+{
+    bus_log::mcp2515_run_log(log, answers)
 }
 
 // What an address holds.

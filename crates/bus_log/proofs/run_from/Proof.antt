@@ -17,8 +17,8 @@ use Rattle.bus_log.proofs.Answers.{answers-first}
 use Rattle.bus_log.proofs.Helds.{held-both, held-moved, held-kept}
 use Rattle.bus_log.proofs.Parts.{from-power-on, runs-join, record-by-record}
 use Rattle.bus_log.proofs.Refusals.{accepted}
-use Rattle.bus_log.proofs.mcp2515_run_from.Statement.{statement}
-use Rattle.bus_log.proofs.mcp2515_run_from.Tie as tie
+use Rattle.bus_log.proofs.run_from.Statement.{statement}
+use Rattle.bus_log.proofs.run_from.Tie as tie
 
 run-refusal-requires : tie.Need-run-refusal-requires
 run-refusal-requires c κs = search needs
@@ -84,8 +84,8 @@ returns-2 c =
       singly = record-by-record;
     }
 
-pub mcp2515-run-from-spec : {M : Type 1} → statement M
-mcp2515-run-from-spec =
+pub run-from-spec : {M : Type 1} → statement M
+run-from-spec =
     tie.close
     (tie.spec
     run-refusal-requires
