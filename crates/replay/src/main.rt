@@ -33,9 +33,9 @@ fn stretch_buffer() -> [u8; STRETCH]
 }
 
 // Renders a part of the log and writes its text at once.
-fn replay_part(p: Progress, part: &[u8], output: &mut [u8]) -> Progress {
-    let chip = p.chip;
-    let rendered = log_text::render_stretch(chip, p.number, part, output);
+fn replay_part(progress: Progress, part: &[u8], output: &mut [u8]) -> Progress {
+    let chip = progress.chip;
+    let rendered = log_text::render_stretch(chip, progress.number, part, output);
     let len = rendered.len;
     let mut written = false;
     if len <= output.len() {
@@ -53,11 +53,11 @@ fn replay_part(p: Progress, part: &[u8], output: &mut [u8]) -> Progress {
     }
 }
 
-fn stopped(p: Progress) -> Progress {
-    let chip = p.chip;
+fn stopped(progress: Progress) -> Progress {
+    let chip = progress.chip;
     Progress {
         chip,
-        number: p.number,
+        number: progress.number,
         kept: 0,
         more: false,
     }
@@ -75,12 +75,12 @@ fn keep(input: &mut [u8], from: usize, size: usize)
 }
 
 // Renders the records that are whole in the first size bytes, and keeps the rest.
-fn replay_whole(p: Progress, input: &mut [u8], size: usize, output: &mut [u8]) -> Progress
+fn replay_whole(progress: Progress, input: &mut [u8], size: usize, output: &mut [u8]) -> Progress
     requires { ⌜ size ≤ length (now input) ⌝ }
 {
     let left = size % RECORD_SIZE;
     let whole = size - left;
-    let next = replay_part(p, &input[..whole], output);
+    let next = replay_part(progress, &input[..whole], output);
     keep(input, whole, left);
     let chip = next.chip;
     Progress {
@@ -98,35 +98,35 @@ fn read_behind(fd: i32, input: &mut [u8], kept: usize) -> isize
 }
 
 // Reads once, behind the bytes that are kept. Where the log ends there, they are a short record.
-fn replay_read(fd: i32, p: Progress, input: &mut [u8], output: &mut [u8]) -> Progress {
-    let kept = p.kept;
+fn replay_read(fd: i32, progress: Progress, input: &mut [u8], output: &mut [u8]) -> Progress {
+    let kept = progress.kept;
     if kept >= input.len() {
-        return stopped(p);
+        return stopped(progress);
     }
     let got = read_behind(fd, input, kept);
     if got < 0 {
         os::fail(b"reading the log");
-        return stopped(p);
+        return stopped(progress);
     }
     if got == 0 {
-        return stopped(replay_part(p, &input[..kept], output));
+        return stopped(replay_part(progress, &input[..kept], output));
     }
     let size = kept + io::count(got, &input[kept..]);
-    replay_whole(p, input, size, output)
+    replay_whole(progress, input, size, output)
 }
 
 fn replay_log(fd: i32) {
     let mut input = stretch_buffer();
     let mut output = io::large_buffer();
-    let mut p = Progress {
+    let mut progress = Progress {
         chip: mcp2515::power_on(),
         number: 0,
         kept: 0,
         more: true,
     };
     let mut reads = MOST_READS;
-    while reads > 0 && p.more {
-        p = replay_read(fd, p, &mut input, &mut output);
+    while reads > 0 && progress.more {
+        progress = replay_read(fd, progress, &mut input, &mut output);
         reads -= 1;
     }
 }

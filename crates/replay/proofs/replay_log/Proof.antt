@@ -6,10 +6,10 @@ use Rattle.replay.proofs.replay_log.Statement.{statement}
 use Rattle.replay.proofs.replay_log.Tie as tie
 
 abbrev Inv-loop : tie.InvT-loop
-Inv-loop fd input₀ output₀ p₀ reads₀ input output p reads = (length input ≡ 32768) × (length output ≡ 65536)
+Inv-loop fd input₀ output₀ progress₀ reads₀ input output progress reads = (length input ≡ 32768) × (length output ≡ 65536)
 
 abbrev μ-loop : tie.MeasureT-loop
-μ-loop fd input₀ output₀ p₀ reads₀ input output p reads = reads
+μ-loop fd input₀ output₀ progress₀ reads₀ input output progress reads = reads
 
 stretch-buffer-requires : tie.Need-stretch-buffer-requires Inv-loop μ-loop
 stretch-buffer-requires c κs = search needs
