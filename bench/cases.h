@@ -29,6 +29,26 @@ extern const struct case_group bus_cases;    /* receiving, sending, modes, error
 size_t case_count(void);
 const struct fixed_case *case_at(size_t i);
 
+/*
+ * A list with one event inside a session. In the tidied list the event, record
+ * from of the list, has place to; all other records keep their order.
+ */
+struct tidied_list {
+    char name[80];
+    struct script s;
+    size_t low; /* select low of the session */
+    size_t from;
+    size_t to;
+};
+
+typedef void tidied_check(const struct tidied_list *t);
+
+/* Hands every list of cases_tidy.c to check. */
+void tidied_lists(tidied_check *check);
+
+/* The record at place i of the tidied list. */
+size_t tidied_record(const struct tidied_list *t, size_t i);
+
 /* Shared steps. */
 void case_errors(struct script *s, unsigned buffer, unsigned count); /* idle, own frame in error */
 

@@ -174,6 +174,23 @@ static void check_cases(void)
     script_free(&s);
 }
 
+/* Lists tidied by hand, as they came and tidied, by the answers of the hand. */
+static void check_tidied_list(const struct tidied_list *t)
+{
+    struct script tidied;
+    check_case(t->name, &t->s);
+    script_init(&tidied);
+    for (size_t i = 0; i < t->s.count; i++) {
+        size_t from = tidied_record(t, i);
+        const struct script_want *want = &t->s.want[from];
+        tidied.file = want->file;
+        tidied.line = want->line;
+        sc_raw(&tidied, t->s.records + RECORD_BYTES * from, want->refusal, want->answer);
+    }
+    check_case(t->name, &tidied);
+    script_free(&tidied);
+}
+
 /* ---- whole-log rule ---- */
 
 static void expect_result(int64_t want, int64_t got, const char *what)
@@ -350,6 +367,7 @@ int main(int argc, char **argv)
     setvbuf(stdout, NULL, _IOLBF, 0); /* the seed has to show even if the call crashes */
     printf("comparing %llu random records, seed %llu\n", records, seed_given);
     check_cases();
+    tidied_lists(check_tidied_list);
     check_whole_log_rule(log, model_answers);
     check_random(&state, records, log, model_answers);
     printf("as they came: %llu logs, %llu records\n", logs_run, records_run);

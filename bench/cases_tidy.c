@@ -1,0 +1,266 @@
+/*
+ * Lists with one event inside a session. Where the event stands in the tidied
+ * list follows from the rules and not from tidy.c: a listed command's event
+ * goes in front of its select low if it came before the command's moment, and
+ * behind its select high otherwise; in other sessions it stays.
+ */
+#include <stdarg.h>
+#include <stdio.h>
+
+#include "cases.h"
+#include "model.h"
+#include "registers.h"
+
+enum place { FRONT, STAYS, BEHIND };
+
+static tidied_check *check_list;
+
+__attribute__((format(printf, 2, 3))) static void start(struct tidied_list *t, const char *format,
+                                                        ...)
+{
+    va_list args;
+    va_start(args, format);
+    vsnprintf(t->name, sizeof t->name, format, args);
+    va_end(args);
+    script_clear(&t->s);
+    t->s.file = __FILE__; /* the name tells where */
+    t->s.line = __LINE__;
+}
+
+/* The next records are a session and its event. */
+static void low(struct tidied_list *t)
+{
+    t->low = t->s.count;
+    sc_low(&t->s);
+}
+
+/* The next record is the event. */
+static struct script *event(struct tidied_list *t)
+{
+    t->from = t->s.count;
+    return &t->s;
+}
+
+static void high(struct tidied_list *t, enum place place)
+{
+    sc_high(&t->s);
+    t->to = place == FRONT ? t->low : place == BEHIND ? t->s.count - 1 : t->from;
+    check_list(t);
+}
+
+size_t tidied_record(const struct tidied_list *t, size_t i)
+{
+    if (i == t->to)
+        return t->from;
+    if (t->to < t->from)
+        return i > t->to && i <= t->from ? i - 1 : i;
+    return i >= t->from && i < t->to ? i + 1 : i;
+}
+
+/* ---- commands of a few exchanges, whole, cut and with a byte more ---- */
+
+/* Exchanges of the whole command. Its moment is the last of them; an unknown
+ * code has its moment at select high. */
+static const struct {
+    uint8_t code;
+    unsigned last;
+} commands[] = {
+    {SPI_RESET, 1}, {SPI_READ, 3}, {SPI_WRITE, 3}, {SPI_BIT_MODIFY, 4}, {SPI_READ_STATUS, 2},
+    {SPI_RX_STATUS, 2}, {0x80, 1}, {0x81, 1}, {0x82, 1}, {0x83, 1}, {0x84, 1}, {0x85, 1},
+    {0x86, 1}, {0x87, 1}, {0x00, 1}, {0x46, 1}, {0x47, 1}, {0x88, 1}, {0x91, 1}, {0x93, 1},
+    {0x95, 1}, {0x97, 1}, {0xFF, 1},
+};
+
+static bool is_known(uint8_t code)
+{
+    return code == SPI_RESET || code == SPI_READ || code == SPI_WRITE || code == SPI_BIT_MODIFY ||
+           code == SPI_READ_STATUS || code == SPI_RX_STATUS || (code >= 0x80 && code < 0x88);
+}
+
+static enum place command_place(uint8_t code, unsigned last, unsigned exchanges, unsigned before)
+{
+    if (exchanges > last)
+        return STAYS;
+    return is_known(code) && exchanges == last && before == last ? BEHIND : FRONT;
+}
+
+/* The event is a receive error, which READ of REC sees. */
+static void one_command(struct tidied_list *t, uint8_t code, unsigned last, unsigned exchanges,
+                        unsigned before)
+{
+    start(t, "code %02Xh, %u exchanges, event after %u", code, exchanges, before);
+    sc_mode(&t->s, MODE_NORMAL);
+    low(t);
+    for (unsigned i = 0; i <= exchanges; i++) {
+        if (i == before)
+            sc_rx_error(event(t), 1);
+        if (i < exchanges)
+            sc_xfer(&t->s, i == 0 ? code : REC, code == SPI_READ && i == 2 && before <= 2 ? 8 : 0);
+    }
+    high(t, command_place(code, last, exchanges, before));
+}
+
+static void short_commands(struct tidied_list *t)
+{
+    for (size_t c = 0; c < sizeof commands / sizeof *commands; c++)
+        for (unsigned exchanges = 0; exchanges <= commands[c].last + 1; exchanges++)
+            for (unsigned before = 0; before <= exchanges; before++)
+                one_command(t, commands[c].code, commands[c].last, exchanges, before);
+}
+
+/* ---- READ RX BUFFER and LOAD TX BUFFER: data byte 7 is the last ---- */
+
+/* Bytes after the code, through data byte 7. */
+static const struct {
+    uint8_t code, start;
+    unsigned most;
+} buffers[] = {
+    {0x90, 0x61, 13}, {0x92, 0x66, 8}, {0x94, 0x71, 13}, {0x96, 0x76, 8}, {0x40, 0x31, 13},
+    {0x41, 0x36, 8},  {0x42, 0x41, 13}, {0x43, 0x46, 8}, {0x44, 0x51, 13}, {0x45, 0x56, 8},
+};
+
+/* Addresses 60h to 7Fh with both buffers full, then filters, which read 0. */
+static const uint8_t both_full[] = {
+    BUKT | BUKT1, 0x24, 0x60, 0, 0, 8, 1,    2,    3,    4,    5,    6,    7,    8,    0, 0x07,
+    0,            0x24, 0x80, 0, 0, 8, 0x11, 0x12, 0x13, 0x14, 0x15, 0x16, 0x17, 0x18, 0, 0x07,
+    0,            0,    0,    0,
+};
+
+static void fill_both(struct script *s)
+{
+    sc_write(s, RXB0CTRL, BUKT);
+    sc_write(s, CANINTE, ERRIF); /* a lost frame shows in CANSTAT */
+    sc_mode(s, MODE_NORMAL);
+    sc_frame(s, 0, 0x123, 8, "\x01\x02\x03\x04\x05\x06\x07\x08", RX_IN_RXB0);
+    sc_frame(s, 0, 0x124, 8, "\x11\x12\x13\x14\x15\x16\x17\x18", RX_IN_RXB1);
+}
+
+/* The reply with both buffers full; CANSTAT tells of a frame lost before it. */
+static uint8_t reply_to(uint8_t code, uint8_t address, bool lost)
+{
+    if (code < SPI_READ_RX)
+        return 0; /* LOAD TX BUFFER */
+    if (lost && (address & 0x0F) == CANSTAT)
+        return 0x02;
+    return both_full[address - RXB0CTRL];
+}
+
+/* 07h suits every byte that LOAD TX BUFFER can run over, CANCTRL too. */
+static void one_length(struct tidied_list *t, size_t b, unsigned bytes, unsigned before)
+{
+    unsigned at = buffers[b].start - 1u;
+    start(t, "code %02Xh and %u bytes, frame after %u exchanges", buffers[b].code, bytes, before);
+    fill_both(&t->s);
+    low(t);
+    for (unsigned i = 0; i <= bytes + 1; i++) {
+        if (i == before)
+            sc_std(event(t), 0x125, RX_LOST);
+        if (i == 0)
+            sc_xfer(&t->s, buffers[b].code, 0);
+        else if (i <= bytes)
+            sc_xfer(&t->s, 0x07, reply_to(buffers[b].code, (uint8_t)(at + i), before <= i));
+    }
+    high(t, bytes <= buffers[b].most ? FRONT : STAYS);
+}
+
+static void buffer_lengths(struct tidied_list *t)
+{
+    static const unsigned lengths[] = {0, 1, 7, 8, 9, 12, 13, 14};
+    for (size_t b = 0; b < sizeof buffers / sizeof *buffers; b++)
+        for (size_t i = 0; i < sizeof lengths / sizeof *lengths; i++) {
+            one_length(t, b, lengths[i], 0);
+            one_length(t, b, lengths[i], 1);
+            one_length(t, b, lengths[i], lengths[i] + 1);
+        }
+}
+
+/* ---- READ RX BUFFER: its own RXnIF, set at select low ---- */
+
+static void one_read_rx(struct tidied_list *t, uint8_t code, uint8_t flags)
+{
+    uint8_t own = code < 0x94 ? RX0IF : RX1IF;
+    start(t, "code %02Xh, CANINTF %02Xh at select low", code, flags);
+    sc_mode(&t->s, MODE_NORMAL);
+    sc_write(&t->s, CANINTF, flags);
+    low(t);
+    sc_xfer(&t->s, code, 0);
+    sc_xfer(&t->s, 0, 0);
+    sc_std(event(t), 0x123, flags & RX0IF ? RX_LOST : RX_IN_RXB0);
+    high(t, flags & own ? FRONT : STAYS);
+}
+
+/* The flag rises between select low and the code byte: too late. */
+static void one_late_flag(struct tidied_list *t, uint8_t code)
+{
+    bool rxb1 = code >= 0x94;
+    start(t, "code %02Xh, the frame comes between select low and the code", code);
+    sc_write(&t->s, RXB0CTRL, BUKT);
+    sc_mode(&t->s, MODE_NORMAL);
+    sc_write(&t->s, CANINTF, rxb1 ? RX0IF : RX1IF);
+    low(t);
+    sc_frame(event(t), 0, 0x123, 1, "\x5A", rxb1 ? RX_IN_RXB1 : RX_IN_RXB0);
+    sc_xfer(&t->s, code, 0);
+    sc_xfer(&t->s, 0, code & 2 ? 0x5A : 0x24);
+    high(t, STAYS);
+}
+
+static void read_rx_flags(struct tidied_list *t)
+{
+    for (unsigned code = 0x90; code <= 0x96; code += 2) {
+        for (unsigned flags = 0; flags < 256; flags++)
+            one_read_rx(t, (uint8_t)code, (uint8_t)flags);
+        one_late_flag(t, (uint8_t)code);
+    }
+}
+
+/* ---- LOAD TX BUFFER: its TXREQ clear and not in flight at select low ---- */
+
+enum { REQUESTED, FLYING };
+
+/* Buffer busy has TXREQ, or is in flight with TXREQ cleared. */
+static void one_load(struct tidied_list *t, uint8_t code, unsigned busy, unsigned how,
+                     unsigned before)
+{
+    unsigned own = (code - 0x40u) / 2;
+    start(t, "code %02Xh, TXB%u %s, event after %u", code, busy,
+          how == FLYING ? "in flight" : "requested", before);
+    sc_mode(&t->s, MODE_NORMAL);
+    sc_rts(&t->s, (uint8_t)(1u << busy));
+    sc_idle(&t->s, (uint8_t)busy);
+    if (how == FLYING)
+        sc_write(&t->s, (uint8_t)(TXB0CTRL + 0x10 * busy), 0);
+    else
+        sc_end(&t->s, END_LOST, 0);
+    low(t);
+    for (unsigned i = 0; i < 3; i++) {
+        if (i == before && how == FLYING)
+            sc_end(event(t), END_SENT, 0);
+        else if (i == before)
+            sc_idle(event(t), (uint8_t)busy);
+        if (i < 2)
+            sc_xfer(&t->s, i == 0 ? code : 0x5A, 0);
+    }
+    high(t, own == busy ? STAYS : FRONT);
+}
+
+static void load_tx_busy(struct tidied_list *t)
+{
+    for (unsigned code = 0x40; code <= 0x45; code++)
+        for (unsigned busy = 0; busy < 3; busy++)
+            for (unsigned before = 0; before < 3; before++) {
+                one_load(t, (uint8_t)code, busy, REQUESTED, before);
+                one_load(t, (uint8_t)code, busy, FLYING, before);
+            }
+}
+
+void tidied_lists(tidied_check *check)
+{
+    struct tidied_list t = {0};
+    script_init(&t.s);
+    check_list = check;
+    short_commands(&t);
+    buffer_lengths(&t);
+    read_rx_flags(&t);
+    load_tx_busy(&t);
+    script_free(&t.s);
+}
