@@ -160,6 +160,67 @@ static void addresses_modulo_128(struct script *s)
     sc_read(AT, 0x10, 0x5A);
 }
 
+/* A byte as it reads after RESET and its WRITE in Configuration. */
+static uint8_t after_write(unsigned a, uint8_t value)
+{
+    if (a == RXB0CTRL) /* bit 1 copies BUKT */
+        return (value & (RXM | BUKT)) | (value & BUKT ? BUKT1 : 0);
+    return value & after_ff[a];
+}
+
+/* Each call that takes an address, at all 128 of them with 80h added. */
+static void every_address_above_7f(struct script *s)
+{
+    for (unsigned a = 0; a < 128; a++) {
+        uint8_t low = (uint8_t)a, above = (uint8_t)(0x80 | a);
+        bool canstat = (a & 0x0F) == CANSTAT; /* Configuration, and no code */
+        sc_reset(AT);
+        sc_write(AT, above, 0x85);
+        sc_read(AT, low, canstat ? 0x80 : after_write(a, 0x85));
+        sc_write(AT, low, 0x8A);
+        sc_read(AT, above, canstat ? 0x80 : after_write(a, 0x8A));
+        sc_modify(AT, above, 0xFF, 0x83);
+        sc_read(AT, low, canstat ? 0x80 : after_write(a, 0x83));
+    }
+}
+
+/* The mask counts above 7Fh where it counts below. */
+static void masks_above_7f(struct script *s)
+{
+    for (unsigned a = 0; a < 128; a++) {
+        bool masked = (a & 0x0F) == CANCTRL || a == BFPCTRL || a == TXRTSCTRL || (a >= CNF3 && a <= EFLG) ||
+                      a == TXB0CTRL || a == TXB1CTRL || a == TXB2CTRL || a == RXB0CTRL ||
+                      a == RXB1CTRL;
+        sc_reset(AT);
+        sc_write(AT, (uint8_t)a, 0x80);
+        sc_modify(AT, (uint8_t)(0x80 | a), 0x63, 0x6F);
+        if ((a & 0x0F) != CANSTAT) /* E3h in CANCTRL asks for no mode */
+            sc_read(AT, (uint8_t)a, after_write(a, masked ? 0xE3 : 0x6F));
+    }
+}
+
+static void runs_past_ffh(struct script *s)
+{
+    sc_write(AT, RXF0SIDH, 0x12);
+    sc_low(AT);
+    sc_xfer(AT, SPI_READ, 0);
+    sc_xfer(AT, 0xFD, 0); /* 7Dh */
+    sc_xfer(AT, 0, 0x00);
+    sc_xfer(AT, 0, 0x80);
+    sc_xfer(AT, 0, 0x87);
+    sc_xfer(AT, 0, 0x12); /* 00h */
+    sc_high(AT);
+    sc_low(AT);
+    sc_xfer(AT, SPI_WRITE, 0);
+    sc_xfer(AT, 0xFE, 0);
+    sc_xfer(AT, 0xFF, 0); /* CANSTAT */
+    sc_xfer(AT, 0x8F, 0);
+    sc_xfer(AT, 0x34, 0);
+    sc_high(AT);
+    sc_read(AT, CANCTRL, 0x8F);
+    sc_read(AT, RXF0SIDH, 0x34);
+}
+
 static void runs_over_canctrl(struct script *s)
 {
     sc_low(AT);
@@ -338,6 +399,56 @@ static void read_rx_clears(struct script *s)
     sc_read(AT, CANINTF, RX0IF);
 }
 
+/* The same of RXB1, whose frames come by rollover. */
+static void read_rx_clears_rx1if(struct script *s)
+{
+    for (unsigned code = 0x94; code <= 0x96; code += 2) {
+        fill_both_rx(AT);
+        sc_one(AT, (uint8_t)code); /* the code alone */
+        sc_read(AT, CANINTF, RX0IF);
+        sc_low(AT);
+        sc_xfer(AT, (uint8_t)code, 0);
+        sc_std(AT, 0x124, RX_IN_RXB1); /* rises inside the session */
+        sc_std(AT, 0x125, RX_LOST);    /* and stands until select high */
+        sc_high(AT);
+        sc_read(AT, CANINTF, ERRIF | RX0IF);
+        sc_std(AT, 0x126, RX_IN_RXB1);
+        sc_one(AT, 0x90); /* the other buffer */
+        sc_read(AT, CANINTF, ERRIF | RX1IF);
+        sc_reset(AT);
+    }
+}
+
+/* The chip moves on between select low and the code byte. */
+static void events_before_the_code(struct script *s)
+{
+    sc_mode(AT, MODE_NORMAL);
+    sc_low(AT);
+    sc_frame(AT, 0, 0x123, 1, "\x5A", RX_IN_RXB0);
+    sc_xfer(AT, 0x92, 0);
+    sc_xfer(AT, 0, 0x5A);
+    sc_high(AT);
+    sc_low(AT);
+    sc_std(AT, 0x124, RX_IN_RXB0);
+    sc_xfer(AT, SPI_READ_STATUS, 0);
+    sc_xfer(AT, 0, 0x01);
+    sc_high(AT);
+    sc_low(AT);
+    sc_std(AT, 0x125, RX_LOST);
+    sc_xfer(AT, SPI_READ, 0);
+    sc_xfer(AT, CANINTF, 0);
+    sc_xfer(AT, 0, ERRIF | RX0IF);
+    sc_high(AT);
+    sc_rts(AT, 1);
+    sc_idle(AT, 0);
+    sc_low(AT);
+    sc_end(AT, END_SENT, 0); /* TXB0 is free before the code */
+    sc_xfer(AT, 0x40, 0);
+    sc_xfer(AT, 0x5A, 0);
+    sc_high(AT);
+    sc_read(AT, TXB0CTRL + SIDH, 0x5A);
+}
+
 static void load_tx_starts(struct script *s)
 {
     static const uint8_t start[6] = {0x31, 0x36, 0x41, 0x46, 0x51, 0x56};
@@ -369,6 +480,26 @@ static void rts_buffers(struct script *s)
     sc_xfer(AT, SPI_RTS | 2, 0);
     sc_high(AT);
     sc_read(AT, TXB1CTRL, 0);
+}
+
+/* 80h asks for no buffer: what is set stays, and no byte after it counts. */
+static void rts_of_none(struct script *s)
+{
+    sc_mode(AT, MODE_NORMAL);
+    sc_rts(AT, 2);
+    case_errors(AT, 1, 1);
+    sc_low(AT);
+    sc_xfer(AT, 0x80, 0);
+    sc_xfer(AT, SPI_RTS | 7, 0);
+    sc_xfer(AT, 0xFF, 0);
+    sc_high(AT);
+    sc_read(AT, TXB0CTRL, 0);
+    sc_read(AT, TXB1CTRL, TXERR | TXREQ);
+    sc_read(AT, TXB2CTRL, 0);
+    sc_idle(AT, 1);
+    sc_rts(AT, 0); /* during a flight too */
+    sc_end(AT, END_SENT, 0);
+    sc_idle(AT, NO_FLIGHT);
 }
 
 static void read_status_bits(struct script *s)
@@ -483,6 +614,9 @@ static const struct fixed_case table[] = {
     {"TX bytes are locked by TXREQ and by flight", tx_bytes_are_locked},
     {"CANSTAT interrupt codes", canstat_codes},
     {"addresses modulo 128", addresses_modulo_128},
+    {"READ, WRITE and BIT MODIFY at every address above 7Fh", every_address_above_7f},
+    {"BIT MODIFY's mask above 7Fh", masks_above_7f},
+    {"READ and WRITE running past FFh", runs_past_ffh},
     {"WRITE and LOAD TX BUFFER running over CANCTRL", runs_over_canctrl},
     {"BIT MODIFY where the mask counts", bit_modify_addresses},
     {"BIT MODIFY on bytes without writable bits", bit_modify_on_read_only},
@@ -492,8 +626,11 @@ static const struct fixed_case table[] = {
     {"READ samples at the exchange", read_samples_at_the_exchange},
     {"READ RX BUFFER start addresses", read_rx_starts},
     {"READ RX BUFFER clears its flag at select high", read_rx_clears},
+    {"READ RX BUFFER clears RX1IF at select high", read_rx_clears_rx1if},
+    {"events between select low and the code byte", events_before_the_code},
     {"LOAD TX BUFFER start addresses", load_tx_starts},
     {"RTS for each set of buffers", rts_buffers},
+    {"80h is RTS of no buffer", rts_of_none},
     {"READ STATUS bits", read_status_bits},
     {"RX STATUS bits", rx_status_bits},
     {"codes that are no instruction", unknown_codes},

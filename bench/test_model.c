@@ -251,11 +251,141 @@ static void test_held_and_read(void)
     EXPECT("mask address above 7Fh", 0, model_reads(&m, 0x80 | RXM1SIDH));
     m.mode = MODE_CONFIGURATION;
     EXPECT("filter read in Configuration", 0x12, model_reads(&m, RXF0SIDH));
-    EXPECT("INT", false, model_int_low(&m));
-    m.reg[CANINTF] = MERRF;
-    EXPECT("INT, not enabled", false, model_int_low(&m));
-    m.reg[CANINTE] = MERRF;
-    EXPECT("INT, by MERRF", true, model_int_low(&m));
+}
+
+/* Every address is told from the others, and has its like above 7Fh. */
+static void test_addresses_above_7f(void)
+{
+    for (uint8_t mode = MODE_NORMAL; mode < MODES; mode++) {
+        struct model m = chip_in(mode);
+        for (unsigned a = 0; a < 128; a++)
+            m.reg[a] = (uint8_t)(a ^ 0x5A);
+        m.reg[EFLG] = RX1OVR;
+        m.tec = 40;
+        m.rec = 100;
+        for (unsigned a = 0; a < 128; a++) {
+            uint8_t low = (uint8_t)a, above = (uint8_t)(0x80 | a);
+            bool filter = a < 0x28 && (a & 0x0F) < 0x0C;
+            uint8_t held = (a & 0x0F) == CANCTRL ? CANCTRL ^ 0x5A
+                           : a == TEC            ? 40
+                           : a == REC            ? 100
+                           : a == EFLG           ? RX1OVR | RXWAR | EWARN
+                                                 : (uint8_t)(a ^ 0x5A);
+            if ((a & 0x0F) == CANSTAT) /* CANINTE 71h and CANINTF 76h share TX2IF, WAKIF, ERRIF */
+                held = (uint8_t)(mode << 5 | 1 << 1);
+            EXPECT("held", held, model_holds(&m, low));
+            EXPECT("held above 7Fh", held, model_holds(&m, above));
+            held = filter && mode != MODE_CONFIGURATION ? 0 : held;
+            EXPECT("read", held, model_reads(&m, low));
+            EXPECT("read above 7Fh", held, model_reads(&m, above));
+        }
+    }
+}
+
+/* ---- INT ---- */
+
+static void raise_rx0if(struct script *s)
+{
+    sc_std(s, 0x123, RX_IN_RXB0);
+}
+
+static void raise_rx1if(struct script *s)
+{
+    sc_write(s, RXB0CTRL, BUKT);
+    sc_std(s, 0x123, RX_IN_RXB0);
+    sc_std(s, 0x123, RX_IN_RXB1);
+}
+
+static void raise_txif(struct script *s, uint8_t n)
+{
+    sc_rts(s, (uint8_t)(1u << n));
+    sc_idle(s, n);
+    sc_end(s, END_SENT, 0);
+}
+
+static void raise_tx0if(struct script *s)
+{
+    raise_txif(s, 0);
+}
+
+static void raise_tx1if(struct script *s)
+{
+    raise_txif(s, 1);
+}
+
+static void raise_tx2if(struct script *s)
+{
+    raise_txif(s, 2);
+}
+
+static void raise_errif(struct script *s)
+{
+    sc_std(s, 0x123, RX_IN_RXB0);
+    sc_std(s, 0x123, RX_LOST);
+}
+
+static void raise_wakif(struct script *s)
+{
+    sc_mode(s, MODE_SLEEP);
+    sc_std(s, 0x123, RX_WOKE);
+}
+
+static void raise_merrf(struct script *s)
+{
+    sc_rx_error(s, 0);
+}
+
+/* INT after the script, which has to go as written. */
+static bool int_after(const struct script *s)
+{
+    struct model m;
+    model_power_on(&m);
+    for (size_t i = 0; i < s->count; i++) {
+        uint8_t refusal, answer;
+        model_step(&m, s->records + RECORD_BYTES * i, &refusal, &answer);
+        EXPECT("refusal on the way to INT", s->want[i].refusal, refusal);
+        EXPECT("answer on the way to INT", s->want[i].answer, answer);
+    }
+    return model_int_low(&m);
+}
+
+/* Each source brings INT low, and by no other enable than its own. */
+static void test_int_sources(void)
+{
+    static void (*const raise[8])(struct script *) = {raise_rx0if, raise_rx1if, raise_tx0if,
+                                                      raise_tx1if, raise_tx2if, raise_errif,
+                                                      raise_wakif, raise_merrf};
+    struct script s;
+    script_init(&s);
+    for (unsigned i = 0; i < 8; i++) {
+        uint8_t bit = (uint8_t)(1u << i);
+        script_clear(&s);
+        sc_mode(&s, MODE_NORMAL);
+        sc_write(&s, CANINTE, bit);
+        EXPECT("INT before its source", false, int_after(&s));
+        raise[i](&s);
+        EXPECT("INT by its source", true, int_after(&s));
+        sc_modify(&s, CANINTF, (uint8_t)~bit, 0);
+        EXPECT("INT, its source alone", true, int_after(&s));
+        sc_write(&s, CANINTE, (uint8_t)~bit);
+        EXPECT("INT, all but its source enabled", false, int_after(&s));
+        sc_write(&s, CANINTE, 0xFF);
+        EXPECT("INT, all enabled", true, int_after(&s));
+        sc_modify(&s, CANINTF, bit, 0);
+        EXPECT("INT, its flag cleared", false, int_after(&s));
+    }
+    script_free(&s);
+}
+
+static void test_int_bits(void)
+{
+    struct model m = chip_in(MODE_NORMAL);
+    for (unsigned enabled = 0; enabled < 256; enabled++)
+        for (unsigned flags = 0; flags < 256; flags++) {
+            m.reg[CANINTE] = (uint8_t)enabled;
+            m.reg[CANINTF] = (uint8_t)flags;
+            EXPECT("INT", (enabled & flags) != 0, model_int_low(&m));
+        }
 }
 
 /* ---- tidied list, by hand ---- */
@@ -720,6 +850,9 @@ int main(int argc, char **argv)
     test_unreached_flights();
     test_unreached_counters();
     test_held_and_read();
+    test_addresses_above_7f();
+    test_int_sources();
+    test_int_bits();
     test_tidied_by_hand();
     test_generator(seed);
     test_every_step(seed);
