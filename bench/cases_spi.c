@@ -188,9 +188,9 @@ static void every_address_above_7f(struct script *s)
 static void masks_above_7f(struct script *s)
 {
     for (unsigned a = 0; a < 128; a++) {
-        bool masked = (a & 0x0F) == CANCTRL || a == BFPCTRL || a == TXRTSCTRL || (a >= CNF3 && a <= EFLG) ||
-                      a == TXB0CTRL || a == TXB1CTRL || a == TXB2CTRL || a == RXB0CTRL ||
-                      a == RXB1CTRL;
+        bool ctrl = (a & 0x0F) == 0 && a >= TXB0CTRL; /* of the five buffers */
+        bool masked = (a & 0x0F) == CANCTRL || a == BFPCTRL || a == TXRTSCTRL ||
+                      (a >= CNF3 && a <= EFLG) || ctrl;
         sc_reset(AT);
         sc_write(AT, (uint8_t)a, 0x80);
         sc_modify(AT, (uint8_t)(0x80 | a), 0x63, 0x6F);

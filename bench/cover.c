@@ -8,6 +8,10 @@ const char *const cover_text[COVER_POINTS] = {
 #undef COVER_NAME
 };
 
+const uint8_t cover_buffer_code[COVER_BUFFER_CODES] = {0x90, 0x92, 0x94, 0x96, 0x40,
+                                                       0x41, 0x42, 0x43, 0x44, 0x45};
+const uint8_t cover_length[COVER_LENGTHS] = {8, 9, 13, 14};
+
 static void hit(struct cover *c, unsigned point)
 {
     c->count[point]++;
@@ -94,7 +98,10 @@ static void idle(struct cover *c, const struct model *m, uint8_t answer)
     bool beaten = false;
     hit(c, COVER_IDLE_0 + answer);
     if (answer == NO_FLIGHT) {
-        hit_if(c, model_bus_off(m) && (m->reg[TXB0CTRL] & TXREQ), COVER_IDLE_BUS_OFF);
+        bool asked = (m->reg[TXB0CTRL] | m->reg[TXB1CTRL] | m->reg[TXB2CTRL]) & TXREQ;
+        hit_if(c, model_bus_off(m) && asked && m->mode == MODE_NORMAL, COVER_IDLE_BUS_OFF);
+        hit_if(c, model_bus_off(m) && asked && m->mode == MODE_LOOPBACK,
+               COVER_IDLE_BUS_OFF_LOOPBACK);
         return;
     }
     uint8_t won = m->reg[TXB0CTRL + 0x10 * answer] & TXP;
@@ -149,6 +156,17 @@ static void exchanged(struct cover *c, const struct model *before, const uint8_t
         hit_if(c, r[1] == SPI_RESET && before->flight != NO_FLIGHT, COVER_RESET_IN_FLIGHT);
         hit_if(c, r[1] > SPI_RTS && r[1] < SPI_RTS + 8 && (before->reg[CANCTRL] & ABAT),
                COVER_ABAT_BARS);
+        hit_if(c, r[1] == SPI_RTS, COVER_RTS_NONE);
+        break;
+    case OPEN_READ_ADDRESS:
+        hit_if(c, r[1] > 0x7F, COVER_READ_ABOVE);
+        break;
+    case OPEN_WRITE_ADDRESS:
+        hit_if(c, r[1] > 0x7F, COVER_WRITE_ABOVE);
+        break;
+    case OPEN_MODIFY_ADDRESS:
+        hit_if(c, r[1] > 0x7F && (r[1] & 0x7F) < BFPCTRL, COVER_MODIFY_ABOVE);
+        hit_if(c, r[1] >= (0x80 | CNF3) && r[1] <= (0x80 | EFLG), COVER_MODIFY_ABOVE_MASKED);
         break;
     case OPEN_READ:
         hit_if(c, before->pointer == 0x7F, COVER_READ_WRAPS);
@@ -180,8 +198,10 @@ static void counters(struct cover *c, const struct model *before, const uint8_t 
     hit_if(c, before->rec > 247 && after->rec == REC_STOP, COVER_REC_STOPS);
     hit_if(c, !model_bus_off(before) && model_bus_off(after), COVER_BUS_OFF);
     hit_if(c, before->tec == 255 && after->tec == TEC_STOP, COVER_BUS_OFF_STOP);
-    hit_if(c, model_bus_off(after) && after->mode != MODE_NORMAL, COVER_BUS_OFF_ELSEWHERE);
+    hit_if(c, model_bus_off(after) && after->mode == MODE_SLEEP, COVER_BUS_OFF_SLEEP);
+    hit_if(c, model_bus_off(after) && after->mode == MODE_LOOPBACK, COVER_BUS_OFF_LOOPBACK);
     hit_if(c, r[0] == KIND_RECOVERY, COVER_RECOVERED);
+    hit_if(c, r[0] == KIND_RECOVERY && before->mode == MODE_LOOPBACK, COVER_RECOVERED_LOOPBACK);
 }
 
 static void modes(struct cover *c, const struct model *before, const uint8_t *r,
@@ -195,6 +215,66 @@ static void modes(struct cover *c, const struct model *before, const uint8_t *r,
            COVER_REQUEST_CANCELLED);
 }
 
+/* INT falls for a single reason. */
+static void interrupts(struct cover *c, const struct model *before, const struct model *after)
+{
+    if (model_int_low(before))
+        return;
+    for (unsigned i = 0; i < 8; i++)
+        hit_if(c, (after->reg[CANINTE] & after->reg[CANINTF]) == 1u << i, COVER_INT_RX0IF + i);
+}
+
+/* RXnIF set at select low, or the TX buffer free. */
+static bool buffer_was_ready(const struct cover *c)
+{
+    const struct model *m = &c->at_low;
+    unsigned n = (c->code & 7) / 2;
+    if (c->code & 0x80)
+        return m->reg[CANINTF] & (c->code & 4 ? RX1IF : RX0IF);
+    return !(m->reg[TXB0CTRL + 0x10 * n] & TXREQ) && m->flight != n;
+}
+
+static void session_ended(struct cover *c, const struct model *before)
+{
+    uint8_t rose = before->reg[CANINTF] & ~c->at_low.reg[CANINTF];
+    hit_if(c, before->clears & rose & c->code_flags, COVER_READ_RX_LATE);
+    hit_if(c, before->reg[CANINTF] & before->clears, COVER_READ_RX_CLEARS);
+    hit_if(c, before->reg[CANINTF] & before->clears & RX1IF, COVER_READ_RX1_CLEARS);
+    if (c->events == 0 || !buffer_was_ready(c))
+        return;
+    for (unsigned i = 0; i < COVER_BUFFER_CODES; i++)
+        for (unsigned j = 0; j < COVER_LENGTHS; j++)
+            if (c->code == cover_buffer_code[i] && c->exchanges == 1u + cover_length[j])
+                c->buffer_sessions[i][j]++;
+}
+
+/* The session so far: its start, its code, its events. */
+static void sessions(struct cover *c, const struct model *before, const uint8_t *r,
+                     uint8_t answer, const struct model *after)
+{
+    if (r[0] == KIND_SELECT_LOW) {
+        c->at_low = *before;
+        c->code = 0;
+        c->exchanges = c->events = 0;
+    } else if (r[0] == KIND_EXCHANGE) {
+        if (c->exchanges++ == 0) {
+            c->code = r[1];
+            c->code_flags = before->reg[CANINTF];
+        }
+    } else if (r[0] == KIND_SELECT_HIGH) {
+        session_ended(c, before);
+    } else if (before->selected) {
+        c->events++;
+        hit(c, COVER_EVENT_IN_SESSION);
+        hit_if(c, before->open == OPEN_CODE && r[0] == KIND_FRAME && (answer == 1 || answer == 2),
+               COVER_FRAME_BEFORE_CODE);
+        hit_if(c, c->exchanges == 1 && c->code == SPI_RTS, COVER_EVENT_AFTER_RTS_NONE);
+        hit_if(c, before->clears && (before->pointer & 0x0F) == CANCTRL &&
+                      model_holds(before, CANSTAT) != model_holds(after, CANSTAT),
+               COVER_READ_RX_CANSTAT);
+    }
+}
+
 void cover_step(struct cover *c, const struct model *before, const uint8_t *record,
                 uint8_t refusal, uint8_t answer, const struct model *after)
 {
@@ -202,15 +282,13 @@ void cover_step(struct cover *c, const struct model *before, const uint8_t *reco
         refused(c, before, record, refusal);
         return;
     }
-    hit_if(c, before->selected && record[0] >= KIND_FRAME, COVER_EVENT_IN_SESSION);
     counters(c, before, record, after);
     modes(c, before, record, after);
+    interrupts(c, before, after);
+    sessions(c, before, record, answer, after);
     switch (record[0]) {
     case KIND_EXCHANGE:
         exchanged(c, before, record, after);
-        break;
-    case KIND_SELECT_HIGH:
-        hit_if(c, before->reg[CANINTF] != after->reg[CANINTF], COVER_READ_RX_CLEARS);
         break;
     case KIND_FRAME:
         hit(c, COVER_FRAME_0 + answer);

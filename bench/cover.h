@@ -10,90 +10,111 @@
 
 #include "model.h"
 
-#define COVER_LIST(X)                                           \
-    X(REFUSAL_1_LOW, "select low refused")                      \
-    X(REFUSAL_1_HIGH, "exchange or select high refused")        \
-    X(REFUSAL_2_KIND, "unknown kind")                           \
-    X(REFUSAL_2_SPI, "damaged select or exchange")              \
-    X(REFUSAL_2_FRAME, "damaged frame")                         \
-    X(REFUSAL_2_EVENT, "other damaged event")                   \
-    X(REFUSAL_3_FRAME, "frame during a flight")                 \
-    X(REFUSAL_3_IDLE, "bus idle during a flight")               \
-    X(REFUSAL_3_ERROR, "receive error during a flight")         \
-    X(REFUSAL_4, "frame end without a flight")                  \
-    X(REFUSAL_5_LOOPBACK, "failure in Loopback")                \
-    X(REFUSAL_5_RECOVERY, "recovery without bus-off")           \
-    X(REFUSED_IN_SESSION, "refused record inside a session")    \
-    X(FRAME_0, "frame unmatched")                               \
-    X(FRAME_1, "frame in RXB0")                                 \
-    X(FRAME_2, "frame in RXB1")                                 \
-    X(FRAME_3, "frame lost")                                    \
-    X(FRAME_4, "frame not listened to")                         \
-    X(FRAME_5, "frame woke")                                    \
-    X(LOOP_0, "own frame unmatched in Loopback")                \
-    X(LOOP_1, "own frame in RXB0")                              \
-    X(LOOP_2, "own frame in RXB1")                              \
-    X(LOOP_3, "own frame lost")                                 \
-    X(LOST_NO_BUKT, "lost at RXB0 with BUKT clear")             \
-    X(LOST_BUKT, "lost with BUKT set")                          \
-    X(LOST_RXB1, "lost at RXB1's own filters")                  \
-    X(ROLLED, "rolled over into RXB1")                          \
-    X(HIT_0, "RXF0 hit")                                        \
-    X(HIT_1, "RXF1 hit")                                        \
-    X(HIT_2, "RXF2 hit")                                        \
-    X(HIT_3, "RXF3 hit")                                        \
-    X(HIT_4, "RXF4 hit")                                        \
-    X(HIT_5, "RXF5 hit")                                        \
-    X(RXM_RXB0, "RXM 11 took a frame for RXB0")                 \
-    X(RXM_RXB1, "RXM 11 took a frame for RXB1")                 \
-    X(STORED_STANDARD_REMOTE, "standard remote frame stored")   \
-    X(STORED_EXTENDED_REMOTE, "extended remote frame stored")   \
-    X(STORED_EXTENDED, "extended data frame stored")            \
-    X(IDLE_0, "TXB0 goes")                                      \
-    X(IDLE_1, "TXB1 goes")                                      \
-    X(IDLE_2, "TXB2 goes")                                      \
-    X(IDLE_NONE, "nothing goes")                                \
-    X(IDLE_TIE, "equal TXP at bus idle")                        \
-    X(IDLE_TXP, "TXP beats the buffer number")                  \
-    X(IDLE_BUS_OFF, "bus idle with TXREQ in bus-off")           \
-    X(SENT_NORMAL, "sent in Normal")                            \
-    X(END_LOST_NORMAL, "arbitration lost")                      \
-    X(END_ERROR_NORMAL, "transmit error")                       \
-    X(END_OSM, "failed under OSM")                              \
-    X(END_ABAT, "failed under ABAT")                            \
-    X(END_NO_RETRY, "failed after TXREQ was cleared")           \
-    X(LONG_DLC, "length code 9 to 15 in Loopback")              \
-    X(ABAT_CLEARS, "ABAT cleared a TXREQ")                      \
-    X(ABAT_BARS, "RTS under ABAT")                              \
-    X(MODE_0, "Normal entered")                                 \
-    X(MODE_1, "Sleep entered")                                  \
-    X(MODE_2, "Loopback entered")                               \
-    X(MODE_3, "Listen-Only entered")                            \
-    X(MODE_4, "Configuration entered")                          \
-    X(REQUEST_WAITS, "mode request waits")                      \
-    X(REQUEST_CANCELLED, "mode request cancelled")              \
-    X(REQUEST_AT_END, "mode changed at a frame's end")          \
-    X(SENT_UNDER_REQUEST, "bus idle sends under a request")     \
-    X(WARNING_TX, "TEC reaches 96")                             \
-    X(WARNING_RX, "REC reaches 96")                             \
-    X(PASSIVE_RX, "REC reaches 128")                            \
-    X(REC_TO_127, "REC falls to 127")                           \
-    X(REC_STOPS, "REC stops at 255")                            \
-    X(BUS_OFF, "bus-off reached")                               \
-    X(BUS_OFF_STOP, "TEC stops at 263")                         \
-    X(BUS_OFF_ELSEWHERE, "bus-off in Sleep or Loopback")        \
-    X(BUS_OFF_WOKE, "woke out of bus-off")                      \
-    X(RECOVERED, "recovery")                                    \
-    X(WRITE_CLOSED, "filter or CNF write outside Configuration")\
-    X(WRITE_LOCKED, "TX byte write under TXREQ or flight")      \
-    X(WRITE_WRAPS, "WRITE passes 7Fh")                          \
-    X(READ_WRAPS, "READ passes 7Fh")                            \
-    X(CANCTRL_IN_RUN, "WRITE run stores CANCTRL")               \
-    X(MODIFY_MASKED, "BIT MODIFY with a mask that counts")      \
-    X(MODIFY_FULL, "BIT MODIFY without mask")                   \
-    X(RESET_IN_FLIGHT, "RESET during a flight")                 \
-    X(READ_RX_CLEARS, "READ RX BUFFER cleared its flag")        \
-    X(EVENT_IN_SESSION, "accepted event inside a session")      \
+#define COVER_LIST(X)                                                   \
+    X(REFUSAL_1_LOW, "select low refused")                              \
+    X(REFUSAL_1_HIGH, "exchange or select high refused")                \
+    X(REFUSAL_2_KIND, "unknown kind")                                   \
+    X(REFUSAL_2_SPI, "damaged select or exchange")                      \
+    X(REFUSAL_2_FRAME, "damaged frame")                                 \
+    X(REFUSAL_2_EVENT, "other damaged event")                           \
+    X(REFUSAL_3_FRAME, "frame during a flight")                         \
+    X(REFUSAL_3_IDLE, "bus idle during a flight")                       \
+    X(REFUSAL_3_ERROR, "receive error during a flight")                 \
+    X(REFUSAL_4, "frame end without a flight")                          \
+    X(REFUSAL_5_LOOPBACK, "failure in Loopback")                        \
+    X(REFUSAL_5_RECOVERY, "recovery without bus-off")                   \
+    X(REFUSED_IN_SESSION, "refused record inside a session")            \
+    X(FRAME_0, "frame unmatched")                                       \
+    X(FRAME_1, "frame in RXB0")                                         \
+    X(FRAME_2, "frame in RXB1")                                         \
+    X(FRAME_3, "frame lost")                                            \
+    X(FRAME_4, "frame not listened to")                                 \
+    X(FRAME_5, "frame woke")                                            \
+    X(LOOP_0, "own frame unmatched in Loopback")                        \
+    X(LOOP_1, "own frame in RXB0")                                      \
+    X(LOOP_2, "own frame in RXB1")                                      \
+    X(LOOP_3, "own frame lost")                                         \
+    X(LOST_NO_BUKT, "lost at RXB0 with BUKT clear")                     \
+    X(LOST_BUKT, "lost with BUKT set")                                  \
+    X(LOST_RXB1, "lost at RXB1's own filters")                          \
+    X(ROLLED, "rolled over into RXB1")                                  \
+    X(HIT_0, "RXF0 hit")                                                \
+    X(HIT_1, "RXF1 hit")                                                \
+    X(HIT_2, "RXF2 hit")                                                \
+    X(HIT_3, "RXF3 hit")                                                \
+    X(HIT_4, "RXF4 hit")                                                \
+    X(HIT_5, "RXF5 hit")                                                \
+    X(RXM_RXB0, "RXM 11 took a frame for RXB0")                         \
+    X(RXM_RXB1, "RXM 11 took a frame for RXB1")                         \
+    X(STORED_STANDARD_REMOTE, "standard remote frame stored")           \
+    X(STORED_EXTENDED_REMOTE, "extended remote frame stored")           \
+    X(STORED_EXTENDED, "extended data frame stored")                    \
+    X(IDLE_0, "TXB0 goes")                                              \
+    X(IDLE_1, "TXB1 goes")                                              \
+    X(IDLE_2, "TXB2 goes")                                              \
+    X(IDLE_NONE, "nothing goes")                                        \
+    X(IDLE_TIE, "equal TXP at bus idle")                                \
+    X(IDLE_TXP, "TXP beats the buffer number")                          \
+    X(IDLE_BUS_OFF, "bus idle with TXREQ in bus-off")                   \
+    X(IDLE_BUS_OFF_LOOPBACK, "bus idle with TXREQ, bus-off in Loopback")\
+    X(SENT_NORMAL, "sent in Normal")                                    \
+    X(END_LOST_NORMAL, "arbitration lost")                              \
+    X(END_ERROR_NORMAL, "transmit error")                               \
+    X(END_OSM, "failed under OSM")                                      \
+    X(END_ABAT, "failed under ABAT")                                    \
+    X(END_NO_RETRY, "failed after TXREQ was cleared")                   \
+    X(LONG_DLC, "length code 9 to 15 in Loopback")                      \
+    X(ABAT_CLEARS, "ABAT cleared a TXREQ")                              \
+    X(ABAT_BARS, "RTS under ABAT")                                      \
+    X(MODE_0, "Normal entered")                                         \
+    X(MODE_1, "Sleep entered")                                          \
+    X(MODE_2, "Loopback entered")                                       \
+    X(MODE_3, "Listen-Only entered")                                    \
+    X(MODE_4, "Configuration entered")                                  \
+    X(REQUEST_WAITS, "mode request waits")                              \
+    X(REQUEST_CANCELLED, "mode request cancelled")                      \
+    X(REQUEST_AT_END, "mode changed at a frame's end")                  \
+    X(SENT_UNDER_REQUEST, "bus idle sends under a request")             \
+    X(WARNING_TX, "TEC reaches 96")                                     \
+    X(WARNING_RX, "REC reaches 96")                                     \
+    X(PASSIVE_RX, "REC reaches 128")                                    \
+    X(REC_TO_127, "REC falls to 127")                                   \
+    X(REC_STOPS, "REC stops at 255")                                    \
+    X(BUS_OFF, "bus-off reached")                                       \
+    X(BUS_OFF_STOP, "TEC stops at 263")                                 \
+    X(BUS_OFF_SLEEP, "bus-off in Sleep")                                \
+    X(BUS_OFF_LOOPBACK, "bus-off in Loopback")                          \
+    X(BUS_OFF_WOKE, "woke out of bus-off")                              \
+    X(RECOVERED, "recovery")                                            \
+    X(RECOVERED_LOOPBACK, "recovery in Loopback")                       \
+    X(WRITE_CLOSED, "filter or CNF write outside Configuration")        \
+    X(WRITE_LOCKED, "TX byte write under TXREQ or flight")              \
+    X(WRITE_WRAPS, "WRITE passes 7Fh")                                  \
+    X(READ_WRAPS, "READ passes 7Fh")                                    \
+    X(READ_ABOVE, "READ from an address above 7Fh")                     \
+    X(WRITE_ABOVE, "WRITE to an address above 7Fh")                     \
+    X(MODIFY_ABOVE, "BIT MODIFY above 7Fh without mask")                \
+    X(MODIFY_ABOVE_MASKED, "BIT MODIFY above 7Fh, its mask counts")     \
+    X(CANCTRL_IN_RUN, "WRITE run stores CANCTRL")                       \
+    X(MODIFY_MASKED, "BIT MODIFY with a mask that counts")              \
+    X(MODIFY_FULL, "BIT MODIFY without mask")                           \
+    X(RESET_IN_FLIGHT, "RESET during a flight")                         \
+    X(RTS_NONE, "80h")                                                  \
+    X(EVENT_AFTER_RTS_NONE, "accepted event after 80h")                 \
+    X(READ_RX_CLEARS, "READ RX BUFFER cleared its flag")                \
+    X(READ_RX1_CLEARS, "the same of RX1IF")                             \
+    X(READ_RX_LATE, "READ RX BUFFER, flag risen before its code")       \
+    X(READ_RX_CANSTAT, "CANSTAT changes after READ RX BUFFER")          \
+    X(EVENT_IN_SESSION, "accepted event inside a session")              \
+    X(FRAME_BEFORE_CODE, "frame stored between select low and code")    \
+    X(INT_RX0IF, "INT falls, by RX0IF alone")                           \
+    X(INT_RX1IF, "INT falls, by RX1IF alone")                           \
+    X(INT_TX0IF, "INT falls, by TX0IF alone")                           \
+    X(INT_TX1IF, "INT falls, by TX1IF alone")                           \
+    X(INT_TX2IF, "INT falls, by TX2IF alone")                           \
+    X(INT_ERRIF, "INT falls, by ERRIF alone")                           \
+    X(INT_WAKIF, "INT falls, by WAKIF alone")                           \
+    X(INT_MERRF, "INT falls, by MERRF alone")                           \
     X(ENDS_OPEN, "log ends in an open session")
 
 enum cover_point {
@@ -103,8 +124,23 @@ enum cover_point {
     COVER_POINTS
 };
 
+/* Codes of READ RX BUFFER and LOAD TX BUFFER, and the bytes after the code
+ * around their limits. */
+enum { COVER_BUFFER_CODES = 10, COVER_LENGTHS = 4 };
+
+extern const uint8_t cover_buffer_code[COVER_BUFFER_CODES];
+extern const uint8_t cover_length[COVER_LENGTHS];
+
 struct cover {
     unsigned long count[COVER_POINTS];
+    /* Sessions of exactly this length with events inside, RXnIF set at select
+     * low, or TXREQ clear and no flight. */
+    unsigned long buffer_sessions[COVER_BUFFER_CODES][COVER_LENGTHS];
+    struct model at_low; /* the present session: the chip before its select low */
+    uint8_t code;
+    uint8_t code_flags; /* CANINTF at the code byte */
+    unsigned exchanges;
+    unsigned events;
 };
 
 extern const char *const cover_text[COVER_POINTS];

@@ -94,7 +94,8 @@ static void make_event(struct gen *g, uint8_t *r)
             r[1] = chance(g, 60) ? END_LOST : END_ERROR;
     } else if (model_bus_off(m) && chance(g, 12)) {
         r[0] = KIND_RECOVERY;
-    } else if (any_txreq(m) && !model_bus_off(m) ? chance(g, 140) : chance(g, 16)) {
+    } else if (any_txreq(m) && (!model_bus_off(m) || m->mode == MODE_LOOPBACK) ? chance(g, 140)
+                                                                             : chance(g, 16)) {
         r[0] = KIND_BUS_IDLE;
     } else if (chance(g, m->mode == MODE_NORMAL ? g->mix.failure : 12)) {
         r[0] = KIND_RECEIVE_ERROR;
@@ -197,7 +198,7 @@ static uint8_t some_address(struct gen *g)
                                      CNF2,     CNF1,      CANINTE,  CANINTF,  EFLG, 0x35, TXB0CTRL,
                                      TXB1CTRL, TXB2CTRL,  RXB0CTRL, RXB1CTRL, 0x62, 0x72};
     uint8_t address = chance(g, 128) ? PICK(g, lively) : (uint8_t)below(g, 128);
-    return chance(g, 10) ? address | 0x80 : address;
+    return chance(g, 30) ? address | 0x80 : address;
 }
 
 /* An address to write at by chance. CANCTRL mostly not: its random modes
@@ -214,7 +215,7 @@ static void plan_read(struct gen *g)
 {
     unsigned replies = chance(g, 160) ? 1 : chance(g, 8) ? 140 : 2 + below(g, 20);
     add(g, SPI_READ);
-    add(g, chance(g, 90) ? g->changed : some_address(g));
+    add(g, chance(g, 90) ? g->changed ^ (chance(g, 20) ? 0x80 : 0) : some_address(g));
     add_random(g, replies);
 }
 
@@ -332,6 +333,24 @@ static void plan_flags(struct gen *g)
     }
 }
 
+/* Bytes after the code of READ RX BUFFER and LOAD TX BUFFER, at the limits
+ * of the listed commands and one past them. */
+static unsigned buffer_limit(struct gen *g)
+{
+    static const uint8_t lengths[] = {8, 9, 13, 14};
+    return PICK(g, lengths);
+}
+
+/* LOAD TX BUFFER at a limit may run over CANCTRL and the next TXBnCTRL. */
+static void add_load_to_limit(struct gen *g, unsigned which)
+{
+    unsigned start = TXB0CTRL + 8 * (which & 6) + (which & 1 ? D0 : SIDH);
+    for (unsigned bytes = buffer_limit(g); g->planned < 1 + bytes;) {
+        unsigned low = (start + g->planned - 1) & 0x0F;
+        add(g, low == CANCTRL ? (uint8_t)(g->mix.favoured << 5 | 7) : some_data(g));
+    }
+}
+
 static void plan_load(struct gen *g)
 {
     unsigned which = below(g, 6);
@@ -342,6 +361,10 @@ static void plan_load(struct gen *g)
         for (unsigned j = 0; j < 4; j++)
             add(g, bytes[j]);
         add(g, (uint8_t)(below(g, 16) | (chance(g, 60) ? RTR : 0) | (chance(g, 20) ? 0xB0 : 0)));
+    }
+    if (chance(g, 50)) {
+        add_load_to_limit(g, which);
+        return;
     }
     for (unsigned i = below(g, 9); i > 0; i--)
         add(g, some_data(g));
@@ -389,11 +412,22 @@ static void plan_in_flight(struct gen *g)
     }
 }
 
+/* In Loopback: TXREQ, which ABAT must not bar, so that bus idle finds one. */
+static void plan_bus_off_loopback(struct gen *g)
+{
+    if (g->chip.reg[CANCTRL] & ABAT)
+        add_write(g, CANCTRL, MODE_LOOPBACK << 5 | 7);
+    else
+        add(g, (uint8_t)(SPI_RTS | below(g, 8)));
+}
+
 /* Out of Normal by ABAT, since TXREQ would hold the mode in bus-off. */
 static void plan_bus_off(struct gen *g)
 {
-    uint8_t mode = chance(g, 170) ? MODE_SLEEP : MODE_LOOPBACK;
-    if (chance(g, 100))
+    uint8_t mode = chance(g, 128) ? MODE_SLEEP : MODE_LOOPBACK;
+    if (g->chip.mode == MODE_LOOPBACK)
+        plan_bus_off_loopback(g);
+    else if (chance(g, 100))
         add_write(g, CANINTE, 0xFF); /* so that a frame can wake it */
     else
         add_write(g, CANCTRL, (uint8_t)(mode << 5 | ABAT | 7));
@@ -406,7 +440,7 @@ static void plan_read_rx(struct gen *g)
     if (chance(g, 200)) /* mostly of a full buffer */
         which = (flags & RX0IF ? 0 : 2) + below(g, 2);
     add(g, (uint8_t)(SPI_READ_RX + 2 * which));
-    add_random(g, below(g, which % 2 ? 9 : 14));
+    add_random(g, chance(g, 80) ? buffer_limit(g) : below(g, which % 2 ? 9 : 14));
 }
 
 static void plan_status(struct gen *g)
@@ -501,6 +535,8 @@ static void plan_session(struct gen *g)
         weight[PLAN_IN_FLIGHT] = 30;
     if (model_bus_off(m) && m->mode == MODE_NORMAL)
         weight[PLAN_BUS_OFF] = 40;
+    if (model_bus_off(m) && m->mode == MODE_LOOPBACK)
+        weight[PLAN_BUS_OFF] = 200; /* stays a while */
     if (near_limit(m))
         weight[PLAN_WATCH] = 100;
     for (i = 0; i < PLANS; i++)
@@ -571,9 +607,17 @@ static unsigned event_chance(const struct gen *g, unsigned usual)
     return usual;
 }
 
+/* READ RX BUFFER has just shown CANSTAT, one byte past its limit: an event
+ * that changes CANSTAT tells whether the session counts as listed. */
+static bool past_buffer_limit(const struct model *m)
+{
+    return m->clears != 0 && (m->pointer & 0x0F) == CANCTRL;
+}
+
 static void inside_session(struct gen *g, uint8_t *r)
 {
-    if (chance(g, (g->mix.event_inside + event_chance(g, g->mix.event_inside)) / 2)) {
+    if (chance(g, (g->mix.event_inside + event_chance(g, g->mix.event_inside)) / 2) ||
+        (past_buffer_limit(&g->chip) && chance(g, 100))) {
         make_event(g, r);
         return;
     }

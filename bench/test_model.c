@@ -770,6 +770,8 @@ static const char *broken_fact(const struct model *m)
         return "RXB0CTRL bit 1 copies bit 2";
     if (m->tec > TEC_STOP || m->rec > REC_STOP)
         return "the counters stop";
+    if (model_int_low(m) != ((model_holds(m, CANINTE) & model_holds(m, CANINTF)) != 0))
+        return "INT is low exactly when CANINTE and CANINTF share a bit";
     return NULL;
 }
 
@@ -806,6 +808,19 @@ static void test_generator(uint64_t seed)
     EXPECT("another seed, another log", false, memcmp(one, two, sizeof one) == 0);
 }
 
+static void check_buffer_sessions(const struct cover *c, bool show)
+{
+    for (unsigned i = 0; i < COVER_BUFFER_CODES; i++)
+        for (unsigned j = 0; j < COVER_LENGTHS; j++) {
+            if (c->buffer_sessions[i][j] == 0)
+                fail(__FILE__, __LINE__, "random logs: expected %02Xh with %u bytes, got none",
+                     cover_buffer_code[i], cover_length[j]);
+            if (show)
+                printf("%10lu  %02Xh with %u bytes and events\n", c->buffer_sessions[i][j],
+                       cover_buffer_code[i], cover_length[j]);
+        }
+}
+
 /* Random logs are worth something only if they get everywhere. */
 static void test_coverage(uint64_t seeds, const struct tidy_tally *tally, bool show)
 {
@@ -824,6 +839,7 @@ static void test_coverage(uint64_t seeds, const struct tidy_tally *tally, bool s
         if (show)
             printf("%10lu  %s\n", c.count[i], cover_text[i]);
     }
+    check_buffer_sessions(&c, show);
     for (unsigned i = 0; i < TIDY_COMMANDS; i++) {
         bool can_be_cut = i != TIDY_EMPTY && i != TIDY_RESET && i != TIDY_RTS && i != TIDY_UNKNOWN;
         if (tally->with_events[i] == 0 || (can_be_cut && tally->cut_with_events[i] == 0))
