@@ -280,6 +280,10 @@ static void one_shot(struct script *s)
     sc_modify(AT, CANCTRL, OSM, OSM);
     sc_end(AT, END_LOST, 0);
     sc_read(AT, TXB0CTRL, MLOA);
+    sc_rts(AT, 7);
+    sc_modify(AT, CANCTRL, OSM, OSM); /* a store with OSM aborts nothing */
+    for (uint8_t ctrl = TXB0CTRL; ctrl <= TXB2CTRL; ctrl += 0x10)
+        sc_read(AT, ctrl, TXREQ);
 }
 
 static void abort_all(struct script *s)
@@ -442,6 +446,19 @@ static void requests(struct script *s)
     sc_mode(AT, MODE_NORMAL); /* the present mode: cancels */
     sc_write(AT, TXB0CTRL, 0);
     sc_read(AT, CANSTAT, 0x00);
+}
+
+static void each_txreq_holds_the_mode(struct script *s)
+{
+    for (unsigned n = 0; n < 3; n++) {
+        sc_reset(AT);
+        sc_mode(AT, MODE_NORMAL);
+        sc_rts(AT, (uint8_t)(1u << n));
+        sc_mode(AT, MODE_SLEEP);
+        sc_read(AT, CANSTAT, 0x00);
+        sc_write(AT, (uint8_t)(TXB0CTRL + 0x10 * n), TXP); /* TXP does not */
+        sc_read(AT, CANSTAT, 0x20);
+    }
 }
 
 static void request_waits_for_the_flight(struct script *s)
@@ -687,6 +704,29 @@ static void transmit_counter(struct script *s)
     sc_read(AT, REC, 8); /* sending moves TEC only */
 }
 
+/* The last values before bus-off, and the first past it. */
+static void tec_reads_up_to_255(struct script *s)
+{
+    for (unsigned sends = 1; sends < 8; sends++) {
+        sc_reset(AT);
+        sc_mode(AT, MODE_NORMAL);
+        sc_rts(AT, 1);
+        case_errors(AT, 0, 1);
+        for (unsigned i = 0; i < sends; i++) {
+            sc_idle(AT, 0);
+            sc_end(AT, END_SENT, 0);
+            sc_rts(AT, 1);
+        }
+        case_errors(AT, 0, 31);
+        sc_read(AT, TEC, (uint8_t)(256 - sends));
+        sc_refused(AT, REFUSED_STATE, KIND_RECOVERY, 0);
+        case_errors(AT, 0, 1);
+        sc_read(AT, TEC, 255);
+        sc_idle(AT, NO_FLIGHT);
+        sc_recovery(AT);
+    }
+}
+
 static void bus_off_and_recovery(struct script *s)
 {
     sc_mode(AT, MODE_NORMAL);
@@ -748,6 +788,7 @@ static const struct fixed_case table[] = {
     {"form of frames in Loopback", loopback_forms},
     {"Loopback uses the receive rules", loopback_receives_by_the_rules},
     {"mode requests", requests},
+    {"each TXREQ holds the mode", each_txreq_holds_the_mode},
     {"a mode request waits for the flight", request_waits_for_the_flight},
     {"a frame ends in the mode it was sent in", frame_ends_in_the_old_mode},
     {"Sleep and waking", sleep_and_wake},
@@ -758,6 +799,7 @@ static const struct fixed_case table[] = {
     {"REC falling", receive_counter_falls},
     {"receive errors outside Normal and in bus-off", receive_errors_elsewhere},
     {"TEC", transmit_counter},
+    {"TEC shows up to 255", tec_reads_up_to_255},
     {"bus-off and recovery", bus_off_and_recovery},
     {"ERRIF and a mode change in one step", errif_and_mode_change_in_one_step},
 };

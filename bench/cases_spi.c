@@ -74,6 +74,42 @@ static void configuration_only(struct script *s)
     }
 }
 
+/* The others take writes in every mode. */
+static void writable_in_every_mode(struct script *s)
+{
+    static const uint8_t at[] = {BFPCTRL, CANINTE, CANINTF, EFLG,     0x31,
+                                 0x35,    0x42,    0x5D,    RXB0CTRL, RXB1CTRL};
+    for (uint8_t mode = MODE_NORMAL; mode < MODES; mode++) {
+        sc_mode(AT, mode);
+        for (size_t i = 0; i < sizeof at; i++) {
+            sc_write(AT, at[i], 0xFF);
+            sc_read(AT, at[i], after_ff[at[i]]);
+            sc_write(AT, at[i], 0x00);
+            sc_read(AT, at[i], 0x00);
+        }
+    }
+}
+
+/* RXRTR and the hit of a stored frame outlive a write. */
+static void rxctrl_keeps_its_hit(struct script *s)
+{
+    sc_write4(AT, RXM0SIDH, 0xFFE00000);
+    sc_write4(AT, RXF1SIDH, 0x24600000); /* 123h in RXB0 by RXF1 */
+    sc_write4(AT, RXM1SIDH, 0xFFE00000);
+    sc_write4(AT, RXF5SIDH, 0x24800000); /* 124h in RXB1 by RXF5 */
+    sc_mode(AT, MODE_NORMAL);
+    sc_frame(AT, FRAME_REMOTE, 0x123, 0, NULL, RX_IN_RXB0);
+    sc_frame(AT, FRAME_REMOTE, 0x124, 0, NULL, RX_IN_RXB1);
+    sc_write(AT, RXB0CTRL, 0xFF);
+    sc_read(AT, RXB0CTRL, RXM | RXRTR | BUKT | BUKT1 | 1);
+    sc_write(AT, RXB0CTRL, 0x00);
+    sc_read(AT, RXB0CTRL, RXRTR | 1);
+    sc_write(AT, RXB1CTRL, 0xFF);
+    sc_read(AT, RXB1CTRL, RXM | RXRTR | 5);
+    sc_write(AT, RXB1CTRL, 0x00);
+    sc_read(AT, RXB1CTRL, RXRTR | 5);
+}
+
 static void other_bits_keep_their_value(struct script *s)
 {
     sc_mode(AT, MODE_NORMAL);
@@ -584,6 +620,26 @@ static void unknown_codes(struct script *s)
             sc_read(AT, a, 0);
 }
 
+/* Past an unknown code and past a command's last byte no code is heard. */
+static void one_code_a_session(struct script *s)
+{
+    static const uint8_t first[] = {0x00, 0xFF, 0x47, 0x80, 0x82};
+    sc_write(AT, CANINTE, 0x5A);
+    for (size_t i = 0; i < sizeof first; i++) {
+        sc_low(AT);
+        sc_xfer(AT, first[i], 0);
+        sc_xfer(AT, SPI_RTS | 5, 0);
+        sc_xfer(AT, SPI_READ, 0);
+        sc_xfer(AT, CANINTE, 0);
+        sc_xfer(AT, SPI_RESET, 0);
+        sc_high(AT);
+    }
+    sc_read(AT, CANINTE, 0x5A);
+    sc_read(AT, TXB0CTRL, 0);
+    sc_read(AT, TXB1CTRL, TXREQ);
+    sc_read(AT, TXB2CTRL, 0);
+}
+
 static void reset_clears_all(struct script *s)
 {
     fill_both_rx(AT);
@@ -609,7 +665,9 @@ static const struct fixed_case table[] = {
     {"every register at power-on", registers_at_power_on},
     {"writable bits of every address", writable_bits},
     {"registers that take writes in Configuration only", configuration_only},
+    {"registers that take writes in every mode", writable_in_every_mode},
     {"bits that are not writable keep their value", other_bits_keep_their_value},
+    {"RXBnCTRL keeps RXRTR and hit", rxctrl_keeps_its_hit},
     {"RXB0CTRL bit 1 copies BUKT", rxb0ctrl_copies_bukt},
     {"TX bytes are locked by TXREQ and by flight", tx_bytes_are_locked},
     {"CANSTAT interrupt codes", canstat_codes},
@@ -634,6 +692,7 @@ static const struct fixed_case table[] = {
     {"READ STATUS bits", read_status_bits},
     {"RX STATUS bits", rx_status_bits},
     {"codes that are no instruction", unknown_codes},
+    {"one code a session", one_code_a_session},
     {"RESET", reset_clears_all},
 };
 

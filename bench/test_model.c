@@ -615,6 +615,43 @@ static void test_tidied_refusals(struct script *s)
     CHECK_ORDER(0, 1, 2);
 }
 
+/* What the tally counts, which the random tests lean on. */
+static void test_tidied_tally(struct script *s)
+{
+    struct tidy_tally tally = {0};
+    script_clear(s);
+    sc_mode(s, MODE_NORMAL); /* WRITE without events */
+    sc_low(s);
+    sc_std(s, 1, RX_IN_RXB0);
+    sc_xfer(s, SPI_RTS, 0);
+    sc_rx_error(s, 0);
+    sc_rx_error(s, 0);
+    sc_high(s);
+    sc_low(s); /* READ, cut */
+    sc_xfer(s, SPI_READ, 0);
+    sc_rx_error(s, 0);
+    sc_high(s);
+    sc_low(s); /* READ RX BUFFER, whole */
+    sc_xfer(s, 0x92, 0);
+    for (unsigned i = 0; i < 8; i++)
+        sc_xfer(s, 0, 0);
+    sc_rx_error(s, 0);
+    sc_high(s);
+    uint8_t *tidied = malloc(RECORD_BYTES * s->count);
+    size_t *map = malloc(s->count * sizeof *map);
+    tidy_log(s->records, s->count, tidied, map, &tally);
+    for (unsigned i = 0; i < TIDY_COMMANDS; i++) {
+        bool with_events = i == TIDY_RTS || i == TIDY_READ || i == TIDY_READ_RX;
+        EXPECT("listed", with_events || i == TIDY_WRITE, tally.listed[i]);
+        EXPECT("with events", with_events, tally.with_events[i]);
+        EXPECT("cut with events", i == TIDY_READ, tally.cut_with_events[i]);
+    }
+    EXPECT("events before", 3, tally.events_before);
+    EXPECT("events after", 2, tally.events_after);
+    free(tidied);
+    free(map);
+}
+
 /* Both lists give the answers worked out by hand, in their own order. */
 static void check_answers(const struct tidied_list *t, bool tidied)
 {
@@ -664,6 +701,7 @@ static void test_tidied_by_hand(void)
     test_tidied_cut_and_long(&s);
     test_tidied_buffers(&s);
     test_tidied_refusals(&s);
+    test_tidied_tally(&s);
     script_free(&s);
     tidied_lists(check_tidied_list);
 }
