@@ -652,47 +652,6 @@ static void test_tidied_tally(struct script *s)
     free(map);
 }
 
-/* Both lists give the answers worked out by hand, in their own order. */
-static void check_answers(const struct tidied_list *t, bool tidied)
-{
-    struct model m;
-    model_power_on(&m);
-    for (size_t i = 0; i < t->s.count; i++) {
-        size_t from = tidied ? tidied_record(t, i) : i;
-        const struct script_want *want = &t->s.want[from];
-        uint8_t refusal, answer;
-        model_step(&m, t->s.records + RECORD_BYTES * from, &refusal, &answer);
-        if (refusal == want->refusal && answer == want->answer)
-            continue;
-        fail(__FILE__, __LINE__, "%s, %s: record %zu: expected %u %u, got %u %u", t->name,
-             tidied ? "tidied" : "as it came", from + 1, want->refusal, want->answer, refusal,
-             answer);
-        return;
-    }
-}
-
-static unsigned tidied_moved, tidied_stayed;
-
-static void check_tidied_list(const struct tidied_list *t)
-{
-    uint8_t *tidied = malloc(RECORD_BYTES * t->s.count);
-    size_t *map = malloc(t->s.count * sizeof *map);
-    tidy_log(t->s.records, t->s.count, tidied, map, NULL);
-    for (size_t i = 0; i < t->s.count; i++) {
-        size_t want = tidied_record(t, i);
-        if (map[i] == want)
-            continue;
-        fail(__FILE__, __LINE__, "%s: tidied place %zu: expected record %zu, got %zu", t->name,
-             i + 1, want + 1, map[i] + 1);
-        break;
-    }
-    check_answers(t, false);
-    check_answers(t, true);
-    *(t->from == t->to ? &tidied_stayed : &tidied_moved) += 1;
-    free(tidied);
-    free(map);
-}
-
 static void test_tidied_by_hand(void)
 {
     struct script s;
@@ -703,7 +662,6 @@ static void test_tidied_by_hand(void)
     test_tidied_refusals(&s);
     test_tidied_tally(&s);
     script_free(&s);
-    tidied_lists(check_tidied_list);
 }
 
 /* ---- random logs ---- */
@@ -767,6 +725,55 @@ static void check_tidied(uint64_t seed, const uint8_t *log, size_t records,
     free(as_came);
     free(in_order);
     free(map);
+}
+
+/* ---- lists tidied by hand, one event in each ---- */
+
+/* Both lists give the answers worked out by hand, in their own order. */
+static void check_answers(const struct tidied_list *t, bool tidied)
+{
+    struct model m;
+    model_power_on(&m);
+    for (size_t i = 0; i < t->s.count; i++) {
+        size_t from = tidied ? tidied_record(t, i) : i;
+        const struct script_want *want = &t->s.want[from];
+        uint8_t refusal, answer;
+        model_step(&m, t->s.records + RECORD_BYTES * from, &refusal, &answer);
+        if (refusal == want->refusal && answer == want->answer)
+            continue;
+        fail(__FILE__, __LINE__, "%s, %s: record %zu: expected %u %u, got %u %u", t->name,
+             tidied ? "tidied" : "as it came", from + 1, want->refusal, want->answer, refusal,
+             answer);
+        return;
+    }
+}
+
+static unsigned tidied_moved, tidied_stayed;
+
+static void check_tidied_list(const struct tidied_list *t)
+{
+    uint8_t *tidied = malloc(RECORD_BYTES * t->s.count);
+    size_t *map = malloc(t->s.count * sizeof *map);
+    tidy_log(t->s.records, t->s.count, tidied, map, NULL);
+    for (size_t i = 0; i < t->s.count; i++) {
+        size_t want = tidied_record(t, i);
+        if (map[i] == want)
+            continue;
+        fail(__FILE__, __LINE__, "%s: tidied place %zu: expected record %zu, got %zu", t->name,
+             i + 1, want + 1, map[i] + 1);
+        break;
+    }
+    check_answers(t, false);
+    check_answers(t, true);
+    check_tidied(0, t->s.records, t->s.count, NULL);
+    *(t->from == t->to ? &tidied_stayed : &tidied_moved) += 1;
+    free(tidied);
+    free(map);
+}
+
+static void test_tidied_lists(void)
+{
+    tidied_lists(check_tidied_list);
 }
 
 static void test_demand_3(uint64_t seeds, struct tidy_tally *tally)
@@ -908,6 +915,7 @@ int main(int argc, char **argv)
     test_int_sources();
     test_int_bits();
     test_tidied_by_hand();
+    test_tidied_lists();
     test_generator(seed);
     test_every_step(seed);
     test_demand_3(seed, &tally);
