@@ -330,6 +330,21 @@ static void abort_in_flight(struct script *s)
     sc_read(AT, TXB0CTRL, ABTF | MLOA | TXERR);
 }
 
+/* ABAT is of the TX buffers: RXRTR stands where TXREQ does. */
+static void abort_leaves_rxctrl(struct script *s)
+{
+    sc_mode(AT, MODE_NORMAL);
+    sc_frame(AT, FRAME_REMOTE, 0x123, 0, NULL, RX_IN_RXB0);
+    sc_rts(AT, 3);
+    sc_idle(AT, 1);
+    sc_modify(AT, CANCTRL, ABAT, ABAT);
+    sc_read(AT, RXB0CTRL, RXRTR);
+    sc_read(AT, TXB0CTRL, ABTF);
+    sc_end(AT, END_ERROR, 0);
+    sc_read(AT, RXB0CTRL, RXRTR);
+    sc_read(AT, TXB1CTRL, ABTF | TXERR);
+}
+
 static void txreq_cleared_in_flight(struct script *s)
 {
     sc_mode(AT, MODE_NORMAL);
@@ -401,6 +416,37 @@ static void loopback_forms(struct script *s)
         sc_read(AT, RXB0CTRL + DLC, RTR | 8);
         sc_read(AT, RXB0CTRL, RXM | RXRTR);
     }
+}
+
+/* Each buffer sends its own bytes, with each value of EID17-16. */
+static void loopback_of_each_buffer(struct script *s)
+{
+    sc_write(AT, RXB0CTRL, RXM);
+    sc_mode(AT, MODE_LOOPBACK);
+    for (uint8_t n = 0; n < 3; n++)
+        for (uint8_t eid = 0; eid <= EID_HIGH; eid++) {
+            uint8_t mark = (uint8_t)(0x10 * n + eid);
+            sc_write(AT, CANINTF, 0);
+            sc_low(AT);
+            sc_xfer(AT, (uint8_t)(SPI_LOAD_TX + 2 * n), 0);
+            sc_xfer(AT, 0x80 | mark, 0);
+            sc_xfer(AT, 0xA0 | IDE | eid, 0);
+            sc_xfer(AT, 0x40 | mark, 0);
+            sc_xfer(AT, 0xC0 | mark, 0);
+            sc_xfer(AT, 1, 0);
+            sc_xfer(AT, mark, 0);
+            sc_high(AT);
+            sc_rts(AT, (uint8_t)(1u << n));
+            sc_idle(AT, n);
+            sc_end(AT, END_SENT, RX_IN_RXB0);
+            sc_read(AT, CANINTF, (uint8_t)(TX0IF << n) | RX0IF);
+            sc_read(AT, RXB0CTRL + SIDH, 0x80 | mark);
+            sc_read(AT, RXB0CTRL + SIDL, 0xA0 | IDE | eid);
+            sc_read(AT, RXB0CTRL + EID8, 0x40 | mark);
+            sc_read(AT, RXB0CTRL + EID0, 0xC0 | mark);
+            sc_read(AT, RXB0CTRL + DLC, 1);
+            sc_read(AT, RXB0CTRL + D0, mark);
+        }
 }
 
 static void loopback_receives_by_the_rules(struct script *s)
@@ -784,8 +830,10 @@ static const struct fixed_case table[] = {
     {"one-shot mode", one_shot},
     {"ABAT", abort_all},
     {"ABAT and the frame in flight", abort_in_flight},
+    {"ABAT and RXB0CTRL", abort_leaves_rxctrl},
     {"TXREQ cleared in flight", txreq_cleared_in_flight},
     {"form of frames in Loopback", loopback_forms},
+    {"each buffer in Loopback", loopback_of_each_buffer},
     {"Loopback uses the receive rules", loopback_receives_by_the_rules},
     {"mode requests", requests},
     {"each TXREQ holds the mode", each_txreq_holds_the_mode},

@@ -620,21 +620,35 @@ static void unknown_codes(struct script *s)
             sc_read(AT, a, 0);
 }
 
-/* Past an unknown code and past a command's last byte no code is heard. */
+/* Bytes that would show as READ, WRITE or BIT MODIFY gone on, and as a code. */
+static void nothing_more_after(struct script *s, uint8_t code)
+{
+    static const uint8_t tails[][4] = {{CANSTAT, 0, 0, 0},
+                                       {CANINTE, 0xFF, 0xA5, 0xA5},
+                                       {SPI_RTS | 5, SPI_RTS | 5, SPI_RTS | 5, SPI_RTS | 5},
+                                       {SPI_READ, CANSTAT, 0, 0},
+                                       {SPI_READ_STATUS, 0, SPI_RESET, 0}};
+    for (size_t i = 0; i < sizeof tails / sizeof *tails; i++) {
+        sc_low(s);
+        sc_xfer(s, code, 0);
+        for (unsigned j = 0; j < 4; j++)
+            sc_xfer(s, tails[i][j], 0);
+        sc_high(s);
+    }
+}
+
 static void one_code_a_session(struct script *s)
 {
-    static const uint8_t first[] = {0x00, 0xFF, 0x47, 0x80, 0x82};
+    static const uint8_t codes[] = {0x00, 0xFF, 0x47, 0x80, 0x82};
+    nothing_more_after(AT, SPI_RESET);
+    read_all_after_reset(AT);
     sc_write(AT, CANINTE, 0x5A);
-    for (size_t i = 0; i < sizeof first; i++) {
-        sc_low(AT);
-        sc_xfer(AT, first[i], 0);
-        sc_xfer(AT, SPI_RTS | 5, 0);
-        sc_xfer(AT, SPI_READ, 0);
-        sc_xfer(AT, CANINTE, 0);
-        sc_xfer(AT, SPI_RESET, 0);
-        sc_high(AT);
-    }
+    sc_write(AT, CANINTF, 0x81);
+    for (size_t i = 0; i < sizeof codes; i++)
+        nothing_more_after(AT, codes[i]);
     sc_read(AT, CANINTE, 0x5A);
+    sc_read(AT, CANINTF, 0x81);
+    sc_read(AT, CANCTRL, 0x87);
     sc_read(AT, TXB0CTRL, 0);
     sc_read(AT, TXB1CTRL, TXREQ);
     sc_read(AT, TXB2CTRL, 0);

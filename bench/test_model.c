@@ -625,7 +625,6 @@ static void test_tidied_tally(struct script *s)
     sc_std(s, 1, RX_IN_RXB0);
     sc_xfer(s, SPI_RTS, 0);
     sc_rx_error(s, 0);
-    sc_rx_error(s, 0);
     sc_high(s);
     sc_low(s); /* READ, cut */
     sc_xfer(s, SPI_READ, 0);
@@ -647,7 +646,7 @@ static void test_tidied_tally(struct script *s)
         EXPECT("cut with events", i == TIDY_READ, tally.cut_with_events[i]);
     }
     EXPECT("events before", 3, tally.events_before);
-    EXPECT("events after", 2, tally.events_after);
+    EXPECT("events after", 1, tally.events_after);
     free(tidied);
     free(map);
 }
