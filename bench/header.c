@@ -1,0 +1,133 @@
+/*
+ * The sizes and numbers of include/mcp2515.h against what the calls say.
+ * header_check.sh looks at the names.
+ */
+#include <stdio.h>
+#include <stdlib.h>
+#include <string.h>
+
+#include "mcp2515.h"
+
+enum { CHIP = MCP2515_CHIP_SIZE, RECORD = MCP2515_RECORD_SIZE, ANSWER = MCP2515_ANSWER_SIZE };
+
+static unsigned checked;
+
+static void expect(const char *what, int64_t want, int64_t got)
+{
+    checked++;
+    if (want == got)
+        return;
+    printf("header: %s: expected %lld, got %lld\n", what, (long long)want, (long long)got);
+    exit(1);
+}
+
+static void check_chip(void)
+{
+    uint8_t chip[CHIP + 1];
+    expect("power-on says the chip's size", CHIP, mcp2515_power_on(chip, CHIP));
+    expect("power-on with a byte less", -MCP2515_REFUSED_CHIP_ROOM,
+           mcp2515_power_on(chip, CHIP - 1));
+    expect("the version at its place", MCP2515_CHIP_VERSION, chip[MCP2515_PLACE_VERSION]);
+    expect("a chip of that size", 0x87, mcp2515_hold(chip, CHIP, 0x0F));
+    expect("a byte more", -MCP2515_REFUSED_NO_CHIP, mcp2515_hold(chip, CHIP + 1, 0x0F));
+    chip[MCP2515_PLACE_VERSION]++;
+    expect("another version", -MCP2515_REFUSED_NO_CHIP, mcp2515_hold(chip, CHIP, 0x0F));
+}
+
+static void one_record(uint8_t *chip, uint8_t kind, uint8_t byte1)
+{
+    uint8_t record[RECORD] = {kind, byte1}, answer[ANSWER];
+    expect("a step writes its answer", ANSWER,
+           mcp2515_step(chip, CHIP, record, RECORD, answer, ANSWER));
+    expect("the refusal of a record that is sound", 0, answer[0]);
+}
+
+static void write_register(uint8_t *chip, uint8_t address, uint8_t value)
+{
+    one_record(chip, 0, 0);
+    one_record(chip, 1, 0x02);
+    one_record(chip, 1, address);
+    one_record(chip, 1, value);
+    one_record(chip, 2, 0);
+}
+
+/* The named places, by a chip that has something at each of them. */
+static void check_places(void)
+{
+    uint8_t chip[CHIP];
+    mcp2515_power_on(chip, CHIP);
+    uint8_t high = chip[MCP2515_PLACE_OPEN];
+    write_register(chip, 0x0F, 0x00); /* Normal */
+    write_register(chip, 0x40, 0x08); /* TXREQ of TXB1 */
+    write_register(chip, 0x0F, 0x40); /* Loopback has to wait */
+    one_record(chip, 4, 0);
+    expect("buffer in flight", 1, chip[MCP2515_PLACE_FLIGHT]);
+    expect("mode requested", 2, chip[MCP2515_PLACE_MODE_REQUESTED]);
+    for (unsigned i = 0; i < 32; i++) { /* 256 errors */
+        one_record(chip, 5, 2);
+        if (i < 31)
+            one_record(chip, 4, 0);
+    }
+    expect("TEC, low byte", 0, chip[MCP2515_PLACE_TEC_LOW]);
+    expect("TEC, high byte", 1, chip[MCP2515_PLACE_TEC_HIGH]);
+    expect("select is high again", high, chip[MCP2515_PLACE_OPEN]);
+    one_record(chip, 0, 0);
+    expect("select is low", 1, chip[MCP2515_PLACE_OPEN] != high);
+}
+
+static void check_record_limits(void)
+{
+    uint8_t chip[CHIP], record[RECORD + 1] = {0}, answer[ANSWER];
+    mcp2515_power_on(chip, CHIP);
+    expect("a record short of a byte", -MCP2515_REFUSED_LENGTH,
+           mcp2515_step(chip, CHIP, record, RECORD - 1, answer, ANSWER));
+    expect("a record with a byte more", -MCP2515_REFUSED_LENGTH,
+           mcp2515_step(chip, CHIP, record, RECORD + 1, answer, ANSWER));
+    expect("an answer short of a byte", -MCP2515_REFUSED_ROOM,
+           mcp2515_step(chip, CHIP, record, RECORD, answer, ANSWER - 1));
+}
+
+static void check_log_limits(void)
+{
+    enum { MOST = MCP2515_MOST_RECORDS };
+    uint8_t chip[CHIP];
+    uint8_t *log = calloc(MOST + 1, RECORD), *answers = calloc(MOST + 1, ANSWER);
+    mcp2515_power_on(chip, CHIP);
+    expect("the longest log", MOST,
+           mcp2515_run_log(log, (size_t)MOST * RECORD, answers, (size_t)MOST * ANSWER));
+    expect("a record more", -MCP2515_REFUSED_COUNT,
+           mcp2515_run_log(log, (MOST + 1) * (size_t)RECORD, answers, (MOST + 1) * (size_t)ANSWER));
+    expect("the longest log, from a chip", MOST,
+           mcp2515_run_from(chip, CHIP, log, (size_t)MOST * RECORD, answers,
+                            (size_t)MOST * ANSWER));
+    expect("a replay of the longest log", 0, mcp2515_part_refusal(MOST - 1, RECORD));
+    expect("and of a record more", MCP2515_REFUSED_COUNT, mcp2515_part_refusal(MOST, RECORD));
+    expect("a replay that ends short", MCP2515_REFUSED_LENGTH, mcp2515_part_refusal(0, 1));
+    free(log);
+    free(answers);
+}
+
+/* The longest line there is: a number of ten digits and an answer of three. */
+static void check_line(void)
+{
+    uint8_t chip[CHIP], part[RECORD] = {0}, text[2 * MCP2515_LINE_SIZE];
+    mcp2515_power_on(chip, CHIP);
+    expect("room for a line and one more", 6,
+           mcp2515_render(chip, CHIP, 0, part, RECORD, text, sizeof text));
+    expect("the line", 0, memcmp(text, "1 0 0\n", 6));
+    expect("a byte less", -MCP2515_REFUSED_ROOM,
+           mcp2515_render(chip, CHIP, 0, part, RECORD, text, sizeof text - 1));
+    expect("the longest line has room", 1,
+           snprintf(NULL, 0, "%lu 255 255\n", (unsigned long)UINT32_MAX) <= MCP2515_LINE_SIZE);
+}
+
+int main(void)
+{
+    check_chip();
+    check_places();
+    check_record_limits();
+    check_log_limits();
+    check_line();
+    printf("header: %u checks of sizes, places and limits agree\n", checked);
+    return 0;
+}

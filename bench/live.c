@@ -1,0 +1,532 @@
+/*
+ * The live calls against the second model: random logs record by record with
+ * INT after each, by run_from in pieces, as text by render; random bytes as a
+ * chip; every refusal of every call. The first difference ends the run with
+ * status 1. What was met is counted, and none of it may be missing.
+ *
+ *   live [records [seed]]
+ */
+#include "live.h"
+
+#include <pthread.h>
+#include <stdio.h>
+#include <stdlib.h>
+#include <string.h>
+
+#include "chip_bytes.h"
+#include "gen.h"
+#include "registers.h"
+
+enum {
+    DEFAULT_RECORDS = 3000000,
+    DEFAULT_SEED = 2515,
+    CHIP = MCP2515_CHIP_SIZE,
+    LONGEST = LOG_RECORDS_MAX + 20,
+    LONGEST_LINE = 40,
+    REFUSALS = 22
+};
+
+struct fence chip_fence, in_fence, out_fence;
+
+static unsigned long long seed_given, seed_of_log;
+static uint64_t dice;
+
+/* ---- what was met ---- */
+
+static const char *const call_name[CALLS] = {
+    "run_log", "power_on", "step", "run_from", "hold", "read", "int_is_low", "render",
+    "part_refusal"};
+
+static unsigned long long results[CALLS][REFUSALS];     /* 0: accepted */
+static unsigned long long refusals[2][REFUSED_STATE + 1]; /* of records; [1]: on random chips */
+static unsigned long long int_lines[2], modes[MODES], opens[OPEN_SPENT + 1];
+static unsigned long long waits, flights, bus_offs, hidden, addresses, wrong_versions,
+    wrong_lengths, random_chips, pieces, parts[REFUSALS];
+
+_Noreturn void live_stop(const char *what)
+{
+    printf("DIFFERENCE: %s\nseed %llu, log seed %llu\n", what, seed_given, seed_of_log);
+    exit(1);
+}
+
+void live_result(enum live_call call, int64_t want, int64_t got)
+{
+    if (want != got) {
+        printf("mcp2515_%s: expected %lld, got %lld\n", call_name[call], (long long)want,
+               (long long)got);
+        live_stop("result of a call");
+    }
+    results[call][call == CALL_PART_REFUSAL ? got : got < 0 ? -got : 0]++;
+}
+
+static void demand(const char *what, unsigned long long count)
+{
+    printf("  %-44s %12llu\n", what, count);
+    if (count == 0)
+        live_stop("never met");
+}
+
+static void demand_numbers(const char *what, const unsigned long long *counts, unsigned size)
+{
+    char text[64];
+    for (unsigned i = 0; i < size; i++) {
+        snprintf(text, sizeof text, "%s %u", what, i);
+        demand(text, counts[i]);
+    }
+}
+
+static void demand_results(void)
+{
+    static const struct {
+        uint8_t call, refusal;
+    } wanted[] = {
+        {CALL_RUN_LOG, 0},      {CALL_RUN_LOG, 6},  {CALL_RUN_LOG, 7},   {CALL_RUN_LOG, 8},
+        {CALL_POWER_ON, 0},     {CALL_POWER_ON, 19}, {CALL_STEP, 0},     {CALL_STEP, 6},
+        {CALL_STEP, 7},         {CALL_STEP, 21},    {CALL_RUN_FROM, 0},  {CALL_RUN_FROM, 6},
+        {CALL_RUN_FROM, 7},     {CALL_RUN_FROM, 8}, {CALL_RUN_FROM, 21}, {CALL_HOLD, 0},
+        {CALL_HOLD, 21},        {CALL_READ, 0},     {CALL_READ, 21},     {CALL_INT_IS_LOW, 0},
+        {CALL_INT_IS_LOW, 21},  {CALL_RENDER, 0},   {CALL_RENDER, 7},    {CALL_RENDER, 21},
+        {CALL_PART_REFUSAL, 0}, {CALL_PART_REFUSAL, 6}, {CALL_PART_REFUSAL, 8},
+    };
+    for (size_t i = 0; i < sizeof wanted / sizeof *wanted; i++) {
+        char text[64];
+        snprintf(text, sizeof text, "mcp2515_%s, refusal %u", call_name[wanted[i].call],
+                 wanted[i].refusal);
+        demand(text, results[wanted[i].call][wanted[i].refusal]);
+    }
+}
+
+static void demand_all(void)
+{
+    printf("met:\n");
+    demand_results();
+    demand_numbers("record of a reached chip, refusal", refusals[0], REFUSED_STATE + 1);
+    demand_numbers("record of a random chip, refusal", refusals[1], REFUSED_STATE + 1);
+    demand_numbers("INT after a record, low is 1:", int_lines, 2);
+    demand_numbers("record in mode", modes, MODES);
+    demand_numbers("record with the open instruction", opens, OPEN_SPENT + 1);
+    demand("record while a mode request waits", waits);
+    demand("record during a flight", flights);
+    demand("record in bus-off", bus_offs);
+    demand("address asked by hold and by read", addresses);
+    demand("address that reads other than it holds", hidden);
+    demand("random chip", random_chips);
+    demand("random bytes of another version", wrong_versions);
+    demand("random bytes of another length", wrong_lengths);
+    demand("piece of a log by run_from", pieces);
+    demand("part of a text that goes on", parts[0]);
+    demand("part of a text that ends in refusal 6", parts[REFUSED_RAGGED]);
+    demand("part of a text that ends in refusal 8", parts[REFUSED_TOO_LONG]);
+}
+
+static unsigned below(unsigned n)
+{
+    return (unsigned)((gen_next(&dice) >> 33) % n);
+}
+
+/* ---- a chip by both ---- */
+
+struct pair {
+    uint8_t chip[CHIP];
+    struct model m;
+    bool random; /* of random bytes */
+};
+
+static void start_pair(struct pair *p)
+{
+    struct model decoded;
+    memset(p, 0, sizeof *p);
+    model_power_on(&p->m);
+    live_result(CALL_POWER_ON, CHIP, mcp2515_power_on(p->chip, CHIP));
+    chip_decode(p->chip, &decoded);
+    if (memcmp(&decoded, &p->m, sizeof decoded) != 0)
+        live_stop("the bytes of the chip after power-on");
+}
+
+static void count_state(const struct model *m)
+{
+    modes[m->mode]++;
+    opens[m->open]++;
+    waits += m->request != NO_REQUEST;
+    flights += m->flight != NO_FLIGHT;
+    bus_offs += model_bus_off(m);
+}
+
+static void print_state(const struct pair *p, const uint8_t *before)
+{
+    printf("chip before:");
+    for (unsigned i = 0; i < CHIP; i++)
+        printf("%s%02X", i % 16 ? " " : "\n  ", before[i]);
+    printf("\nchip after:");
+    for (unsigned i = 0; i < CHIP; i++)
+        printf("%s%02X", i % 16 ? " " : "\n  ", p->chip[i]);
+    printf("\n");
+}
+
+static void check_bytes(const struct pair *p, const uint8_t *before, bool refused)
+{
+    struct model decoded;
+    if (refused && memcmp(before, p->chip, CHIP) != 0) {
+        print_state(p, before);
+        live_stop("a refused record changed the chip");
+    }
+    if (memcmp(before + 146, p->chip + 146, CHIP - 146) != 0)
+        live_stop("a spare byte or the version was changed");
+    chip_decode(p->chip, &decoded);
+    if (memcmp(&decoded, &p->m, sizeof decoded) != 0) {
+        print_state(p, before);
+        live_stop("the bytes of the chip after a step");
+    }
+}
+
+static void check_int(const struct pair *p)
+{
+    bool low = model_int_low(&p->m);
+    live_result(CALL_INT_IS_LOW, low, mcp2515_int_is_low(p->chip, CHIP));
+    int_lines[low]++;
+}
+
+static void check_addresses(const struct pair *p)
+{
+    uint8_t *chip = fence_lend(&chip_fence, CHIP);
+    memcpy(chip, p->chip, CHIP);
+    for (unsigned i = 0; i < 256; i++) {
+        uint8_t address = (uint8_t)i;
+        uint8_t held = model_holds(&p->m, address), replied = model_reads(&p->m, address);
+        live_result(CALL_HOLD, held, mcp2515_hold(chip, CHIP, address));
+        live_result(CALL_READ, replied, mcp2515_read(chip, CHIP, address));
+        hidden += held != replied;
+    }
+    addresses += 256;
+    if (memcmp(chip, p->chip, CHIP) != 0)
+        live_stop("a question changed the chip");
+}
+
+static void step_pair(struct pair *p, const uint8_t *record)
+{
+    uint8_t refusal, answer;
+    size_t room = MCP2515_ANSWER_SIZE + below(3);
+    uint8_t *chip = fence_lend(&chip_fence, CHIP);
+    uint8_t *lent = fence_lend(&in_fence, RECORD_BYTES), *got = fence_lend(&out_fence, room);
+    uint8_t before[CHIP];
+    memcpy(before, p->chip, CHIP);
+    memcpy(chip, p->chip, CHIP);
+    memcpy(lent, record, RECORD_BYTES);
+    count_state(&p->m);
+    model_step(&p->m, record, &refusal, &answer);
+    live_result(CALL_STEP, MCP2515_ANSWER_SIZE,
+                mcp2515_step(chip, CHIP, lent, RECORD_BYTES, got, room));
+    memcpy(p->chip, chip, CHIP);
+    if (got[0] != refusal || got[1] != answer) {
+        printf("kind %u: expected refusal %u answer %u, got %u %u\n", record[0], refusal, answer,
+               got[0], got[1]);
+        print_state(p, before);
+        live_stop("a step");
+    }
+    if (!fence_filled(got + 2, room - 2) || !fence_intact(&chip_fence, CHIP) ||
+        !fence_intact(&out_fence, room) || memcmp(lent, record, RECORD_BYTES) != 0)
+        live_stop("a step wrote beside its answer");
+    check_bytes(p, before, refusal != REFUSED_NOT);
+    check_int(p);
+    refusals[p->random][refusal]++;
+}
+
+/* ---- random logs ---- */
+
+static size_t some_log(uint8_t *log, size_t records)
+{
+    unsigned pick = below(100);
+    seed_of_log = gen_next(&dice);
+    if (pick < 8)
+        gen_noise(seed_of_log, log, RECORD_BYTES * records);
+    else
+        gen_log(pick < 16 ? GEN_QUIET : pick < 24 ? GEN_BUSY : GEN_MIXED, seed_of_log, log,
+                records);
+    if (pick >= 84)
+        gen_damage(seed_of_log, log, records);
+    return records;
+}
+
+static void live_log(uint8_t *log)
+{
+    struct pair p;
+    size_t records = some_log(log, below(4) ? below(300) : below(5000));
+    start_pair(&p);
+    for (size_t i = 0; i < records; i++) {
+        step_pair(&p, log + RECORD_BYTES * i);
+        if (below(100) == 0)
+            check_addresses(&p);
+    }
+    check_addresses(&p);
+}
+
+/* ---- the same in pieces ---- */
+
+static void run_piece(struct pair *p, const uint8_t *log, size_t records)
+{
+    size_t log_len = RECORD_BYTES * records, room = 2 * records + below(20);
+    uint8_t *chip = fence_lend(&chip_fence, CHIP), *lent = fence_lend(&in_fence, log_len);
+    uint8_t *got = fence_lend(&out_fence, room), before[CHIP];
+    bool all_refused = true;
+    memcpy(before, p->chip, CHIP);
+    memcpy(chip, p->chip, CHIP);
+    memcpy(lent, log, log_len);
+    live_result(CALL_RUN_FROM, (int64_t)records,
+                mcp2515_run_from(chip, CHIP, lent, log_len, got, room));
+    memcpy(p->chip, chip, CHIP);
+    for (size_t i = 0; i < records; i++) {
+        uint8_t refusal, answer;
+        model_step(&p->m, log + RECORD_BYTES * i, &refusal, &answer);
+        if (got[2 * i] != refusal || got[2 * i + 1] != answer)
+            live_stop("a record of run_from");
+        all_refused = all_refused && refusal != REFUSED_NOT;
+    }
+    if (!fence_filled(got + 2 * records, room - 2 * records) ||
+        !fence_intact(&chip_fence, CHIP) || !fence_intact(&out_fence, room) ||
+        memcmp(lent, log, log_len) != 0)
+        live_stop("run_from wrote beside its answers");
+    check_bytes(p, before, all_refused);
+    pieces++;
+}
+
+static void pieces_of_log(uint8_t *log)
+{
+    struct pair p;
+    size_t records = some_log(log, below(20) ? below(3000) : below(LOG_RECORDS_MAX));
+    start_pair(&p);
+    for (size_t done = 0; done < records;) {
+        size_t most = records - done, size = below(3) ? below(20) : below(5000);
+        if (size > most)
+            size = most;
+        run_piece(&p, log + RECORD_BYTES * done, size);
+        done += size;
+    }
+    check_addresses(&p);
+}
+
+/* ---- as text ---- */
+
+/* The lines that expected.c would print from here on; how many bytes. */
+static size_t model_text(struct model *m, unsigned long number, const uint8_t *part,
+                         size_t part_len, char *text, unsigned *end)
+{
+    size_t at = 0;
+    *end = REFUSED_NOT;
+    for (size_t i = 0; i < part_len && *end == REFUSED_NOT; i += RECORD_BYTES) {
+        uint8_t refusal, answer = 0;
+        number++;
+        if (part_len - i < RECORD_BYTES)
+            *end = refusal = REFUSED_RAGGED;
+        else if (number > LOG_RECORDS_MAX)
+            *end = refusal = REFUSED_TOO_LONG;
+        else
+            model_step(m, part + i, &refusal, &answer);
+        at += (size_t)snprintf(text + at, LONGEST_LINE, "%lu %u %u\n", number, refusal, answer);
+    }
+    return at;
+}
+
+/* Returns the refusal that ended the text, or 0. */
+static unsigned render_part(struct pair *p, uint32_t number, const uint8_t *part, size_t part_len,
+                            char *text)
+{
+    unsigned end;
+    size_t room = (part_len / RECORD_BYTES + 1) * MCP2515_LINE_SIZE + below(20);
+    uint8_t *chip = fence_lend(&chip_fence, CHIP), *lent = fence_lend(&in_fence, part_len);
+    uint8_t *got = fence_lend(&out_fence, room), before[CHIP];
+    memcpy(before, p->chip, CHIP);
+    memcpy(chip, p->chip, CHIP);
+    memcpy(lent, part, part_len);
+    size_t want = model_text(&p->m, number, part, part_len, text, &end);
+    live_result(CALL_RENDER, (int64_t)want,
+                mcp2515_render(chip, CHIP, number, lent, part_len, got, room));
+    if (memcmp(got, text, want) != 0)
+        live_stop("the text of a part");
+    if (!fence_filled(got + want, room - want) || !fence_intact(&chip_fence, CHIP) ||
+        !fence_intact(&out_fence, room) || memcmp(lent, part, part_len) != 0)
+        live_stop("render wrote beside its text");
+    live_result(CALL_PART_REFUSAL, end, mcp2515_part_refusal(number, part_len));
+    memcpy(p->chip, chip, CHIP);
+    check_bytes(p, before, false);
+    parts[end]++;
+    return end;
+}
+
+static void text_of_log(uint8_t *log, char *text)
+{
+    struct pair p;
+    size_t done = 0, records = some_log(log, below(3000));
+    size_t length = RECORD_BYTES * records + (below(2) ? below(RECORD_BYTES) : 0);
+    unsigned end = REFUSED_NOT;
+    uint32_t first = below(2) ? 0 : below(8) ? LOG_RECORDS_MAX - below(3000) : UINT32_MAX - below(4);
+    start_pair(&p);
+    while (end == REFUSED_NOT && done < length) {
+        size_t size = RECORD_BYTES * (size_t)(below(3) ? below(20) : below(3000));
+        if (size > length - done)
+            size = length - done;
+        end = render_part(&p, first + (uint32_t)(done / RECORD_BYTES), log + done, size, text);
+        done += size;
+    }
+}
+
+/* ---- random bytes as a chip ---- */
+
+static void random_bytes(uint8_t *bytes, size_t length)
+{
+    for (size_t i = 0; i < length; i++)
+        bytes[i] = (uint8_t)below(256);
+}
+
+/* A reached chip with a few bytes changed, or bytes of no run at all. */
+static void random_chip(struct pair *p, const uint8_t *log, size_t records)
+{
+    static const uint8_t near[] = {0, 1, 2, 3, 4, 5, 7, 95, 96, 127, 128, 255};
+    start_pair(p);
+    for (size_t i = 0; i < records; i++)
+        step_pair(p, log + RECORD_BYTES * i);
+    if (below(4) == 0)
+        random_bytes(p->chip, CHIP);
+    for (unsigned n = below(12); n > 0; n--)
+        p->chip[below(CHIP)] = (uint8_t)below(256);
+    for (unsigned n = below(12); n > 0; n--)
+        p->chip[128 + below(18)] = below(2) ? (uint8_t)below(256) : near[below(sizeof near)];
+    p->chip[MCP2515_PLACE_VERSION] = MCP2515_CHIP_VERSION;
+    p->random = true;
+    chip_decode(p->chip, &p->m);
+    random_chips++;
+}
+
+/* Records that follow this chip, as the generator would choose them. */
+static void step_from_here(struct pair *p, unsigned records)
+{
+    struct gen g;
+    uint8_t record[RECORD_BYTES];
+    gen_start(&g, GEN_MIXED, gen_next(&dice));
+    g.chip = p->m;
+    g.planned = below(24);
+    random_bytes(g.plan, g.planned);
+    check_int(p);
+    check_addresses(p);
+    while (records-- > 0) {
+        gen_record(&g, record);
+        step_pair(p, record);
+        if (below(8) == 0)
+            g.chip = p->m;
+    }
+    check_addresses(p);
+}
+
+static void refuse_bytes(void)
+{
+    uint8_t record[RECORD_BYTES] = {0};
+    size_t length = below(2) ? CHIP : below(2 * CHIP);
+    uint8_t *bytes = fence_lend(&chip_fence, length), before[2 * CHIP];
+    uint8_t *answer = fence_lend(&out_fence, 2 * MCP2515_LINE_SIZE);
+    random_bytes(bytes, length);
+    if (length == CHIP && bytes[MCP2515_PLACE_VERSION] == MCP2515_CHIP_VERSION)
+        return;
+    memcpy(before, bytes, length);
+    live_result(CALL_STEP, -21, mcp2515_step(bytes, length, record, 16, answer, 2));
+    live_result(CALL_RUN_FROM, -21, mcp2515_run_from(bytes, length, record, 16, answer, 2));
+    live_result(CALL_RENDER, -21, mcp2515_render(bytes, length, 0, record, 16, answer, 38));
+    live_result(CALL_HOLD, -21, mcp2515_hold(bytes, length, (uint8_t)below(256)));
+    live_result(CALL_READ, -21, mcp2515_read(bytes, length, (uint8_t)below(256)));
+    live_result(CALL_INT_IS_LOW, -21, mcp2515_int_is_low(bytes, length));
+    if (memcmp(before, bytes, length) != 0 || !fence_filled(answer, 2 * MCP2515_LINE_SIZE))
+        live_stop("a refused call changed a byte");
+    *(length == CHIP ? &wrong_versions : &wrong_lengths) += 1;
+}
+
+static void random_start(uint8_t *log)
+{
+    struct pair p, q;
+    size_t records = some_log(log, below(60));
+    random_chip(&p, log, records);
+    q = p;
+    step_from_here(&p, 1 + below(60));
+    records = some_log(log, below(60));
+    run_piece(&q, log, records);
+    for (unsigned i = 0; i < 4; i++)
+        refuse_bytes();
+}
+
+/* ---- two threads at once ---- */
+
+struct worker {
+    const uint8_t *log;
+    size_t records;
+    uint8_t *answers;
+    bool live; /* record by record; else the whole log at once */
+};
+
+static void *work(void *argument)
+{
+    struct worker *w = argument;
+    uint8_t chip[CHIP];
+    if (!w->live) {
+        mcp2515_run_log(w->log, RECORD_BYTES * w->records, w->answers, 2 * w->records);
+        return NULL;
+    }
+    mcp2515_power_on(chip, CHIP);
+    for (size_t i = 0; i < w->records; i++)
+        mcp2515_step(chip, CHIP, w->log + RECORD_BYTES * i, RECORD_BYTES, w->answers + 2 * i, 2);
+    return NULL;
+}
+
+static void check_threads(uint8_t *log)
+{
+    enum { WORKERS = 4, RECORDS = 60000 };
+    pthread_t thread[WORKERS];
+    struct worker w[WORKERS];
+    uint8_t *want = malloc(2 * RECORDS);
+    some_log(log, RECORDS);
+    model_run_log(log, RECORD_BYTES * RECORDS, want, 2 * RECORDS);
+    for (unsigned i = 0; i < WORKERS; i++) {
+        w[i] = (struct worker){log, RECORDS, malloc(2 * RECORDS), i % 2};
+        if (pthread_create(&thread[i], NULL, work, &w[i]) != 0)
+            live_stop("no thread");
+    }
+    for (unsigned i = 0; i < WORKERS; i++) {
+        pthread_join(thread[i], NULL);
+        if (memcmp(w[i].answers, want, 2 * RECORDS) != 0)
+            live_stop("calls in several threads");
+        free(w[i].answers);
+    }
+    free(want);
+}
+
+static unsigned long long steps_done(void)
+{
+    unsigned long long sum = 0;
+    for (unsigned i = 0; i <= REFUSED_STATE; i++)
+        sum += refusals[0][i] + refusals[1][i];
+    return sum;
+}
+
+int main(int argc, char **argv)
+{
+    unsigned long long records = argc > 1 ? strtoull(argv[1], NULL, 0) : DEFAULT_RECORDS;
+    seed_given = argc > 2 ? strtoull(argv[2], NULL, 0) : DEFAULT_SEED;
+    dice = seed_given;
+    uint8_t *log = malloc((size_t)LONGEST * RECORD_BYTES);
+    char *text = malloc(4000 * LONGEST_LINE);
+    chip_fence = fence_new(2 * CHIP);
+    in_fence = fence_new((size_t)LONGEST * RECORD_BYTES);
+    out_fence = fence_new((size_t)LONGEST * MCP2515_LINE_SIZE);
+    setvbuf(stdout, NULL, _IOLBF, 0); /* the seed has to show even if a call crashes */
+    printf("live calls: %llu random records, seed %llu\n", records, seed_given);
+    check_edges();
+    while (steps_done() < records) {
+        live_log(log);
+        pieces_of_log(log);
+        text_of_log(log, text);
+        for (unsigned i = 0; i < 30; i++)
+            random_start(log);
+    }
+    check_threads(log);
+    demand_all();
+    free(log);
+    free(text);
+    printf("no difference in %llu steps\n", steps_done());
+    return 0;
+}

@@ -1,0 +1,178 @@
+/*
+ * The proved MCP2515 stand-in, for C programs. Link the archive libstand_in.a.
+ *
+ * A record is 16 bytes. Byte 0 is its kind; bytes not named for a kind are 0.
+ *
+ *   kind  record              fields                           answer
+ *   0     select low                                           0
+ *   1     exchange            byte 1: byte sent                the reply byte
+ *   2     select high                                          0
+ *   3     frame heard         byte 1: bit 0 extended, bit 1    0 no match, 1 in RXB0,
+ *                             remote; byte 2: length 0 to 8;   2 in RXB1, 3 lost,
+ *                             bytes 4-7: identifier, high      4 not listening, 5 woke
+ *                             byte first; bytes 8-15: data
+ *   4     bus idle                                             TX buffer that goes, 3 none
+ *   5     own frame ends      byte 1: 0 sent, 1 arbitration    0; in Loopback 0 to 3
+ *                             lost, 2 error                    as for a frame
+ *   6     receive error       byte 1: REC up by 1 (0), 8 (1)   0
+ *   7     bus-off recovery                                     0
+ *
+ * Two bytes come back for each record, refusal then answer. A refused record
+ * answers 0 and changes no byte of the chip, which takes the next record.
+ *
+ * A log is records one after the other without a header, at most 65,535.
+ *
+ * Every call that returns a negative number was refused: it is minus one of the
+ * MCP2515_REFUSED_ numbers, and no byte of a lent buffer has changed. A pointer
+ * may be NULL if its length is 0. Buffers of one call must not overlap. There
+ * is no state but the bytes lent: calls on different buffers may run in
+ * different threads at the same time.
+ */
+#ifndef MCP2515_H
+#define MCP2515_H
+
+#include <stddef.h>
+#include <stdint.h>
+
+#ifdef __cplusplus
+extern "C" {
+#endif
+
+#define MCP2515_RECORD_SIZE 16
+#define MCP2515_ANSWER_SIZE 2 /* refusal and answer of one record */
+#define MCP2515_MOST_RECORDS 65535
+#define MCP2515_LINE_SIZE 19 /* room for a line of the replay's text */
+
+/*
+ * A chip is 152 bytes that the program holds, copies, saves and loads as it
+ * likes. Any 152 bytes with the version in the last one are a chip, also one
+ * that no run reaches. Any other length or version is no chip.
+ *
+ *   place    what
+ *   0-127    the bytes of 00h to 7Fh at their addresses; those of control
+ *            registers, TEC, REC, CANSTAT and CANCTRL are not used
+ *   128-131  CANCTRL, CANINTE, CANINTF, EFLG (its two overflow bits)
+ *   132-136  TXB0CTRL, TXB1CTRL, TXB2CTRL, RXB0CTRL, RXB1CTRL
+ *   137-139  TEC low byte, REC, TEC high byte
+ *   140      mode by number, from 4 on Configuration
+ *   141      buffer in flight, from 3 on none
+ *   142      mode requested, from 5 on none
+ *   143-145  select line and open instruction by number, its address, its mask
+ *   146-150  spare, never changed
+ *   151      the version, 1
+ *
+ * What an address shows is asked by mcp2515_hold; the places below are those
+ * of what no address shows whole.
+ */
+#define MCP2515_CHIP_SIZE 152
+#define MCP2515_CHIP_VERSION 1
+#define MCP2515_PLACE_TEC_LOW 137
+#define MCP2515_PLACE_TEC_HIGH 139
+#define MCP2515_PLACE_FLIGHT 141
+#define MCP2515_PLACE_MODE_REQUESTED 142
+#define MCP2515_PLACE_OPEN 143
+#define MCP2515_PLACE_VERSION 151
+
+/* Refusals of a record, beside 0. */
+#define MCP2515_REFUSED_SELECT 1    /* select low while low; exchange or select high while high */
+#define MCP2515_REFUSED_FIELD 2     /* unknown kind, field out of range, spare byte not 0 */
+#define MCP2515_REFUSED_IN_FLIGHT 3 /* kind 3, 4 or 6 during the flight of an own frame */
+#define MCP2515_REFUSED_NO_FLIGHT 4 /* kind 5 without a flight */
+#define MCP2515_REFUSED_STATE 5     /* kind 5 not sent in Loopback; kind 7 without bus-off */
+
+/* Refusals of a call, returned as negative numbers. */
+#define MCP2515_REFUSED_LENGTH 6     /* no whole number of records */
+#define MCP2515_REFUSED_ROOM 7       /* too little room for answers or text */
+#define MCP2515_REFUSED_COUNT 8      /* more than 65,535 records */
+#define MCP2515_REFUSED_CHIP_ROOM 19 /* too little room for a chip */
+#define MCP2515_REFUSED_NO_CHIP 21   /* the bytes are no chip: length or version */
+
+/*
+ * Runs a log from power-on. The first that applies decides:
+ *
+ *   -6  log_len is no whole number of records
+ *   -8  there are more than 65,535
+ *   -7  answers_len has no room for two bytes each
+ *   otherwise the number of records, 0 for an empty log
+ *
+ * Refusal and answer of record i, from 0, are answers[2i] and answers[2i + 1];
+ * bytes past the last answer stay.
+ */
+int64_t mcp2515_run_log(const uint8_t *log, size_t log_len, uint8_t *answers, size_t answers_len);
+
+/*
+ * Makes the first 152 bytes the chip after power-on; bytes past them stay.
+ *
+ *   -19  chip_len is below 152
+ *   otherwise 152
+ */
+int64_t mcp2515_power_on(uint8_t *chip, size_t chip_len);
+
+/*
+ * One record. answer[0] is its refusal, answer[1] its answer; bytes past them
+ * stay. A record that the chip refuses is no refusal of the call.
+ *
+ *   -21  no chip
+ *   -6   record_len is not 16
+ *   -7   answer_len is below 2
+ *   otherwise 2
+ */
+int64_t mcp2515_step(uint8_t *chip, size_t chip_len, const uint8_t *record, size_t record_len,
+                     uint8_t *answer, size_t answer_len);
+
+/*
+ * Runs a log as mcp2515_run_log does, from the chip lent, which is the chip
+ * after the log then.
+ *
+ *   -21  no chip
+ *   -6, -8, -7 as there
+ *   otherwise the number of records
+ */
+int64_t mcp2515_run_from(uint8_t *chip, size_t chip_len, const uint8_t *log, size_t log_len,
+                         uint8_t *answers, size_t answers_len);
+
+/*
+ * The byte that an address holds, and the byte that READ replies there in the
+ * present mode: filters and masks read 0 outside Configuration. An address
+ * counts modulo 128.
+ *
+ *   -21  no chip
+ *   otherwise the byte, 0 to 255
+ */
+int64_t mcp2515_hold(const uint8_t *chip, size_t chip_len, uint8_t address);
+int64_t mcp2515_read(const uint8_t *chip, size_t chip_len, uint8_t address);
+
+/*
+ * The INT line: 1 while it is low (an enabled flag is set), else 0.
+ *
+ *   -21  no chip
+ */
+int64_t mcp2515_int_is_low(const uint8_t *chip, size_t chip_len);
+
+/*
+ * The replay's text of a part of a log, by the chip lent, which is stepped.
+ * number says how many records were run before. Each record gets a line with
+ * its number (the first is number + 1), refusal and answer. Where the part ends
+ * short of a whole record, a last line has refusal 6. A whole record past the
+ * 65,535th is not run: it gets a last line with refusal 8, and nothing follows.
+ * Parts cut between records give the text of the whole.
+ *
+ *   -21  no chip
+ *   -7   text_len is below (part_len / 16 + 1) * 19
+ *   otherwise the bytes of text written; the bytes past them may have changed
+ */
+int64_t mcp2515_render(uint8_t *chip, size_t chip_len, uint32_t number, const uint8_t *part,
+                       size_t part_len, uint8_t *text, size_t text_len);
+
+/*
+ * The refusal that ends a replay in this part, after number records: 6 where it
+ * ends short, 8 at a whole record past the 65,535th (which is asked first), 0
+ * where the replay goes on.
+ */
+int64_t mcp2515_part_refusal(uint32_t number, size_t part_len);
+
+#ifdef __cplusplus
+}
+#endif
+
+#endif
