@@ -30,7 +30,6 @@ needs=$(nm -u "$archive" 2>/dev/null | awk '$1 == "U" { print $2 }' | sort -u)
 [ -z "$needs" ] || echo "header check: the archive needs" $needs
 
 "$cc" -std=c11 -Wall -Wextra -Werror -pedantic -fsyntax-only -x c "$header" || stop "C11"
-"$cxx" -std=c++98 -Wno-long-long -Wall -Wextra -Werror -fsyntax-only -x c++ "$header" ||
-    "$cxx" -Wall -Wextra -Werror -fsyntax-only -x c++ "$header" || stop "C++"
+"$cxx" -std=c++11 -Wall -Wextra -Werror -pedantic -fsyntax-only -x c++ "$header" || stop "C++"
 "$program" || exit 1
 echo "header check: $(echo "$declared" | wc -l) calls, each in the header and in the archive"

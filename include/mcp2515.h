@@ -38,6 +38,8 @@
 extern "C" {
 #endif
 
+#define MCP2515_VERSION "0.1.0" /* of header, archive and tool */
+
 #define MCP2515_RECORD_SIZE 16
 #define MCP2515_ANSWER_SIZE 2 /* refusal and answer of one record */
 #define MCP2515_MOST_RECORDS 65535

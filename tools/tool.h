@@ -1,0 +1,76 @@
+/*
+ * The command-line tool: what its subcommands share. A subcommand is a file of
+ * its own and an entry in the table of mcp2515.c.
+ */
+#ifndef TOOLS_TOOL_H
+#define TOOLS_TOOL_H
+
+#include <stdbool.h>
+#include <stddef.h>
+#include <stdint.h>
+#include <sys/types.h>
+
+/* Exit statuses, as cmp and diff have them. */
+enum { STATUS_GOOD = 0, STATUS_REFUSED = 1, STATUS_TROUBLE = 2 };
+
+struct subcommand {
+    const char *name;
+    const char *summary; /* a line for `mcp2515 --help` */
+    const char *help;
+    int (*run)(int argc, char **argv); /* argv[0] is its name; returns the status */
+};
+
+extern const struct subcommand replay_command, chip_command;
+
+/* ---- arguments ---- */
+
+struct flag {
+    const char *name; /* with its dashes */
+    bool *given;
+};
+
+enum { MOST_OPERANDS = 2, GO_ON = -1 };
+
+struct arguments {
+    const struct flag *flags;
+    size_t flag_count;
+    int most; /* operands allowed */
+    const char *operand[MOST_OPERANDS];
+    int count;
+};
+
+/* GO_ON, or the status to end with: --help was printed, or something is wrong. */
+int take_arguments(const struct subcommand *c, int argc, char **argv, struct arguments *a);
+
+/* ---- messages on standard error, and standard output ---- */
+
+/* `mcp2515: WHAT: REASON`; gives STATUS_TROUBLE. */
+int trouble(const char *what, const char *reason);
+
+/* The same with the reason of errno. */
+int trouble_errno(const char *what);
+
+/* What a refusal of a log means, in words. */
+const char *refusal_text(int64_t refusal);
+
+/* Writes all of the bytes at once; gives STATUS_GOOD or STATUS_TROUBLE. */
+int write_out(const uint8_t *bytes, size_t length);
+
+/* Prints what stdio still holds; gives STATUS_GOOD or STATUS_TROUBLE. */
+int flush_out(void);
+
+/* ---- input ---- */
+
+struct input {
+    const char *name; /* for messages */
+    int file;
+};
+
+/* path may be NULL or "-" for standard input. STATUS_GOOD or STATUS_TROUBLE. */
+int open_input(struct input *in, const char *path);
+void close_input(struct input *in);
+
+/* What is there now, at most length bytes; 0 at the end, -1 for trouble (told). */
+ssize_t read_input(const struct input *in, uint8_t *bytes, size_t length);
+
+#endif
