@@ -97,9 +97,9 @@ static void check_log_limits(void)
            mcp2515_run_log(log, (size_t)MOST * RECORD, answers, (size_t)MOST * ANSWER));
     expect("a record more", -MCP2515_REFUSED_COUNT,
            mcp2515_run_log(log, (MOST + 1) * (size_t)RECORD, answers, (MOST + 1) * (size_t)ANSWER));
-    expect("the longest log, from a chip", MOST,
-           mcp2515_run_from(chip, CHIP, log, (size_t)MOST * RECORD, answers,
-                            (size_t)MOST * ANSWER));
+    expect(
+        "the longest log, from a chip", MOST,
+        mcp2515_run_from(chip, CHIP, log, (size_t)MOST * RECORD, answers, (size_t)MOST * ANSWER));
     expect("a replay of the longest log", 0, mcp2515_part_refusal(MOST - 1, RECORD));
     expect("and of a record more", MCP2515_REFUSED_COUNT, mcp2515_part_refusal(MOST, RECORD));
     expect("a replay that ends short", MCP2515_REFUSED_LENGTH, mcp2515_part_refusal(0, 1));

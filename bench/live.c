@@ -33,11 +33,11 @@ static uint64_t dice;
 
 /* ---- what was met ---- */
 
-static const char *const call_name[CALLS] = {
-    "run_log", "power_on", "step", "run_from", "hold", "read", "int_is_low", "render",
-    "part_refusal"};
+static const char *const call_name[CALLS] = {"run_log",    "power_on", "step",
+                                             "run_from",   "hold",     "read",
+                                             "int_is_low", "render",   "part_refusal"};
 
-static unsigned long long results[CALLS][REFUSALS];     /* 0: accepted */
+static unsigned long long results[CALLS][REFUSALS];       /* 0: accepted */
 static unsigned long long refusals[2][REFUSED_STATE + 1]; /* of records; [1]: on random chips */
 static unsigned long long int_lines[2], modes[MODES], opens[OPEN_SPENT + 1];
 static unsigned long long waits, flights, bus_offs, hidden, addresses, wrong_versions,
@@ -80,12 +80,14 @@ static void demand_results(void)
     static const struct {
         uint8_t call, refusal;
     } wanted[] = {
-        {CALL_RUN_LOG, 0},      {CALL_RUN_LOG, 6},  {CALL_RUN_LOG, 7},   {CALL_RUN_LOG, 8},
-        {CALL_POWER_ON, 0},     {CALL_POWER_ON, 19}, {CALL_STEP, 0},     {CALL_STEP, 6},
-        {CALL_STEP, 7},         {CALL_STEP, 21},    {CALL_RUN_FROM, 0},  {CALL_RUN_FROM, 6},
-        {CALL_RUN_FROM, 7},     {CALL_RUN_FROM, 8}, {CALL_RUN_FROM, 21}, {CALL_HOLD, 0},
-        {CALL_HOLD, 21},        {CALL_READ, 0},     {CALL_READ, 21},     {CALL_INT_IS_LOW, 0},
-        {CALL_INT_IS_LOW, 21},  {CALL_RENDER, 0},   {CALL_RENDER, 7},    {CALL_RENDER, 21},
+        {CALL_RUN_LOG, 0},      {CALL_RUN_LOG, 6},      {CALL_RUN_LOG, 7},
+        {CALL_RUN_LOG, 8},      {CALL_POWER_ON, 0},     {CALL_POWER_ON, 19},
+        {CALL_STEP, 0},         {CALL_STEP, 6},         {CALL_STEP, 7},
+        {CALL_STEP, 21},        {CALL_RUN_FROM, 0},     {CALL_RUN_FROM, 6},
+        {CALL_RUN_FROM, 7},     {CALL_RUN_FROM, 8},     {CALL_RUN_FROM, 21},
+        {CALL_HOLD, 0},         {CALL_HOLD, 21},        {CALL_READ, 0},
+        {CALL_READ, 21},        {CALL_INT_IS_LOW, 0},   {CALL_INT_IS_LOW, 21},
+        {CALL_RENDER, 0},       {CALL_RENDER, 7},       {CALL_RENDER, 21},
         {CALL_PART_REFUSAL, 0}, {CALL_PART_REFUSAL, 6}, {CALL_PART_REFUSAL, 8},
     };
     for (size_t i = 0; i < sizeof wanted / sizeof *wanted; i++) {
@@ -240,8 +242,10 @@ static size_t some_log(uint8_t *log, size_t records)
     if (pick < 8)
         gen_noise(seed_of_log, log, RECORD_BYTES * records);
     else
-        gen_log(pick < 16 ? GEN_QUIET : pick < 24 ? GEN_BUSY : GEN_MIXED, seed_of_log, log,
-                records);
+        gen_log(pick < 16   ? GEN_QUIET
+                : pick < 24 ? GEN_BUSY
+                            : GEN_MIXED,
+                seed_of_log, log, records);
     if (pick >= 84)
         gen_damage(seed_of_log, log, records);
     return records;
@@ -281,9 +285,8 @@ static void run_piece(struct pair *p, const uint8_t *log, size_t records)
             live_stop("a record of run_from");
         all_refused = all_refused && refusal != REFUSED_NOT;
     }
-    if (!fence_filled(got + 2 * records, room - 2 * records) ||
-        !fence_intact(&chip_fence, CHIP) || !fence_intact(&out_fence, room) ||
-        memcmp(lent, log, log_len) != 0)
+    if (!fence_filled(got + 2 * records, room - 2 * records) || !fence_intact(&chip_fence, CHIP) ||
+        !fence_intact(&out_fence, room) || memcmp(lent, log, log_len) != 0)
         live_stop("run_from wrote beside its answers");
     check_bytes(p, before, all_refused);
     pieces++;
@@ -358,7 +361,9 @@ static void text_of_log(uint8_t *log, char *text)
     size_t done = 0, records = some_log(log, below(3000));
     size_t length = RECORD_BYTES * records + (below(2) ? below(RECORD_BYTES) : 0);
     unsigned end = REFUSED_NOT;
-    uint32_t first = below(2) ? 0 : below(8) ? LOG_RECORDS_MAX - below(3000) : UINT32_MAX - below(4);
+    uint32_t first = below(2)   ? 0
+                     : below(8) ? LOG_RECORDS_MAX - below(3000)
+                                : UINT32_MAX - below(4);
     start_pair(&p);
     while (end == REFUSED_NOT && done < length) {
         size_t size = RECORD_BYTES * (size_t)(below(3) ? below(20) : below(3000));

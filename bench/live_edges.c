@@ -138,9 +138,8 @@ static void run_at(size_t chip_len, uint8_t version, size_t log_len, size_t answ
 static void edge_run(size_t chip_len, uint8_t version)
 {
     enum { MOST = MCP2515_MOST_RECORDS * MCP2515_RECORD_SIZE };
-    static const size_t log_lengths[] = {0,    1,        15,        16,       17,
-                                         160,  MOST - 1, MOST,      MOST + 1, MOST + 16,
-                                         MOST + 17};
+    static const size_t log_lengths[] = {0,        1,    15,       16,        17,       160,
+                                         MOST - 1, MOST, MOST + 1, MOST + 16, MOST + 17};
     for (size_t i = 0; i < COUNT(log_lengths); i++) {
         size_t room = MCP2515_ANSWER_SIZE * (log_lengths[i] / MCP2515_RECORD_SIZE);
         run_at(chip_len, version, log_lengths[i], 0);
@@ -202,7 +201,7 @@ static void edge_part_refusal(void)
         for (size_t part_len = 0; part_len < 100; part_len++) {
             uint64_t last = (uint64_t)numbers[i] + part_len / MCP2515_RECORD_SIZE;
             bool whole = part_len >= MCP2515_RECORD_SIZE;
-            int64_t want = whole && last > MCP2515_MOST_RECORDS          ? MCP2515_REFUSED_COUNT
+            int64_t want = whole && last > MCP2515_MOST_RECORDS  ? MCP2515_REFUSED_COUNT
                            : part_len % MCP2515_RECORD_SIZE != 0 ? MCP2515_REFUSED_LENGTH
                                                                  : 0;
             live_result(CALL_PART_REFUSAL, want, mcp2515_part_refusal(numbers[i], part_len));

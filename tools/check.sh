@@ -73,7 +73,7 @@ for log in "${logs[@]}"; do
     status "$wanted" $? "replay -, $name"
     same "$work/want" "$work/out" "replay -, $name"
     for size in 7 1000; do
-        dd if="$log" bs="$size" 2>/dev/null | head -c 2000000 | "$tool" replay >"$work/out"
+        dd if="$log" bs="$size" 2>/dev/null | "$tool" replay >"$work/out"
         same "$work/want" "$work/out" "replay in pieces of $size bytes, $name"
         [ -s "$log" ] && [ "$(stat -c %s "$log")" -lt 400000 ] || break
     done

@@ -42,8 +42,8 @@ static int run_log(const struct input *in, struct ran *ran)
     if (length < 0)
         return STATUS_TROUBLE;
     mcp2515_power_on(ran->chip, sizeof ran->chip);
-    int64_t records = mcp2515_run_from(ran->chip, sizeof ran->chip, log, (size_t)length, answers,
-                                       sizeof answers);
+    int64_t records =
+        mcp2515_run_from(ran->chip, sizeof ran->chip, log, (size_t)length, answers, sizeof answers);
     if (records < 0)
         return trouble(in->name, refusal_text(-records));
     ran->records = (size_t)records;
@@ -59,22 +59,22 @@ struct field {
     const char *name;
 };
 
-static const struct field canctrl_fields[] = {
-    {0xE0, "REQOP"}, {0x10, "ABAT"}, {0x08, "OSM"}, {0x04, "CLKEN"}, {0x03, "CLKPRE"}, {0, NULL}};
+static const struct field canctrl_fields[] = {{0xE0, "REQOP"}, {0x10, "ABAT"},   {0x08, "OSM"},
+                                              {0x04, "CLKEN"}, {0x03, "CLKPRE"}, {0, NULL}};
 static const struct field canstat_fields[] = {{0xE0, "OPMOD"}, {0x0E, "ICOD"}, {0, NULL}};
-static const struct field caninte_fields[] = {
-    {0x80, "MERRE"}, {0x40, "WAKIE"}, {0x20, "ERRIE"}, {0x10, "TX2IE"}, {0x08, "TX1IE"},
-    {0x04, "TX0IE"}, {0x02, "RX1IE"}, {0x01, "RX0IE"}, {0, NULL}};
-static const struct field canintf_fields[] = {
-    {0x80, "MERRF"}, {0x40, "WAKIF"}, {0x20, "ERRIF"}, {0x10, "TX2IF"}, {0x08, "TX1IF"},
-    {0x04, "TX0IF"}, {0x02, "RX1IF"}, {0x01, "RX0IF"}, {0, NULL}};
-static const struct field eflg_fields[] = {
-    {0x80, "RX1OVR"}, {0x40, "RX0OVR"}, {0x20, "TXBO"},  {0x10, "TXEP"}, {0x08, "RXEP"},
-    {0x04, "TXWAR"},  {0x02, "RXWAR"},  {0x01, "EWARN"}, {0, NULL}};
+static const struct field caninte_fields[] = {{0x80, "MERRE"}, {0x40, "WAKIE"}, {0x20, "ERRIE"},
+                                              {0x10, "TX2IE"}, {0x08, "TX1IE"}, {0x04, "TX0IE"},
+                                              {0x02, "RX1IE"}, {0x01, "RX0IE"}, {0, NULL}};
+static const struct field canintf_fields[] = {{0x80, "MERRF"}, {0x40, "WAKIF"}, {0x20, "ERRIF"},
+                                              {0x10, "TX2IF"}, {0x08, "TX1IF"}, {0x04, "TX0IF"},
+                                              {0x02, "RX1IF"}, {0x01, "RX0IF"}, {0, NULL}};
+static const struct field eflg_fields[] = {{0x80, "RX1OVR"}, {0x40, "RX0OVR"}, {0x20, "TXBO"},
+                                           {0x10, "TXEP"},   {0x08, "RXEP"},   {0x04, "TXWAR"},
+                                           {0x02, "RXWAR"},  {0x01, "EWARN"},  {0, NULL}};
 static const struct field txctrl_fields[] = {{0x40, "ABTF"},  {0x20, "MLOA"}, {0x10, "TXERR"},
                                              {0x08, "TXREQ"}, {0x03, "TXP"},  {0, NULL}};
-static const struct field rxb0ctrl_fields[] = {
-    {0x60, "RXM"}, {0x08, "RXRTR"}, {0x04, "BUKT"}, {0x02, "BUKT1"}, {0x01, "FILHIT0"}, {0, NULL}};
+static const struct field rxb0ctrl_fields[] = {{0x60, "RXM"},   {0x08, "RXRTR"},   {0x04, "BUKT"},
+                                               {0x02, "BUKT1"}, {0x01, "FILHIT0"}, {0, NULL}};
 static const struct field rxb1ctrl_fields[] = {
     {0x60, "RXM"}, {0x08, "RXRTR"}, {0x07, "FILHIT"}, {0, NULL}};
 static const struct field cnf1_fields[] = {{0xC0, "SJW"}, {0x3F, "BRP"}, {0, NULL}};
@@ -270,8 +270,8 @@ static void print_settings(const struct ran *ran)
 {
     static const uint8_t filters[] = {0x00, 0x04, 0x08, 0x10, 0x14, 0x18};
     static const struct named_register settings[] = {
-        {0x2A, "CNF1", cnf1_fields},       {0x29, "CNF2", cnf2_fields},
-        {0x28, "CNF3", cnf3_fields},       {0x0C, "BFPCTRL", bfpctrl_fields},
+        {0x2A, "CNF1", cnf1_fields},           {0x29, "CNF2", cnf2_fields},
+        {0x28, "CNF3", cnf3_fields},           {0x0C, "BFPCTRL", bfpctrl_fields},
         {0x0D, "TXRTSCTRL", txrtsctrl_fields},
     };
     print_mask(ran, 0, 0x20);

@@ -48,15 +48,14 @@ static int print_part(struct replay *r, size_t length, int64_t *end)
 {
     static uint8_t text[TEXT_BYTES];
     *end = mcp2515_part_refusal(r->number, length);
-    int64_t written = mcp2515_render(r->chip, sizeof r->chip, r->number, r->part, length, text,
-                                     sizeof text);
+    int64_t written =
+        mcp2515_render(r->chip, sizeof r->chip, r->number, r->part, length, text, sizeof text);
     if (written < 0)
         return trouble(r->in.name, "the archive refused its part");
     r->number += (uint32_t)(length / MCP2515_RECORD_SIZE);
     memmove(r->part, r->part + length, r->length - length);
     r->length -= length;
-    return write_out(text, r->refused_only ? keep_refused(text, (size_t)written)
-                                           : (size_t)written);
+    return write_out(text, r->refused_only ? keep_refused(text, (size_t)written) : (size_t)written);
 }
 
 /* Each read is printed at once, as far as its records are whole. */
