@@ -1,6 +1,8 @@
 /*
  * Time a record of the proved call and of the second model on the same logs,
- * then records a second and peak memory of the replay program.
+ * and what a record costs by mcp2515_run_from and by mcp2515_step in parts of
+ * the whole-log call; then records a second and peak memory of the replay
+ * program.
  *
  *   speed replay log-file-to-write
  */
@@ -56,16 +58,42 @@ static void run_model(const struct pool *p, size_t i)
     model_run_log(p->bytes + length * i, length, answers_of_model, 2 * p->records);
 }
 
+static void run_from(const struct pool *p, size_t i)
+{
+    uint8_t chip[MCP2515_CHIP_SIZE];
+    size_t length = RECORD_BYTES * p->records;
+    mcp2515_power_on(chip, sizeof chip);
+    mcp2515_run_from(chip, sizeof chip, p->bytes + length * i, length, answers_of_call,
+                     2 * p->records);
+}
+
+static void run_steps(const struct pool *p, size_t i)
+{
+    uint8_t chip[MCP2515_CHIP_SIZE];
+    const uint8_t *log = p->bytes + RECORD_BYTES * p->records * i;
+    mcp2515_power_on(chip, sizeof chip);
+    for (size_t at = 0; at < p->records; at++)
+        mcp2515_step(chip, sizeof chip, log + RECORD_BYTES * at, RECORD_BYTES,
+                     answers_of_call + 2 * at, 2);
+}
+
+/* What is timed, in the order of the table. */
+enum { CALL, MODEL, FROM, STEPS, WAYS };
+static void (*const ways[WAYS])(const struct pool *, size_t) = {run_call, run_model, run_from,
+                                                                run_steps};
+
 static void check_pool(const char *name, const struct pool *p)
 {
-    for (size_t i = 0; i < p->logs; i++) {
-        run_call(p, i);
-        run_model(p, i);
-        if (memcmp(answers_of_call, answers_of_model, 2 * p->records) == 0)
-            continue;
-        fprintf(stderr, "%s: the call and the model disagree\n", name);
-        exit(1);
-    }
+    for (size_t i = 0; i < p->logs; i++)
+        for (unsigned way = 0; way < WAYS; way++) {
+            memset(answers_of_call, 0xFF, 2 * p->records);
+            run_model(p, i);
+            ways[way](p, i);
+            if (way == MODEL || memcmp(answers_of_call, answers_of_model, 2 * p->records) == 0)
+                continue;
+            fprintf(stderr, "%s: the calls and the model disagree\n", name);
+            exit(1);
+        }
 }
 
 static void take_best(double *best, void (*run)(const struct pool *, size_t),
@@ -85,15 +113,15 @@ static void time_profile(const char *name, enum gen_profile profile, uint8_t *by
     static const size_t sizes[] = {1000, 10000, MOST};
     for (size_t s = 0; s < sizeof sizes / sizeof *sizes; s++) {
         struct pool p = {bytes, sizes[s], MOST / sizes[s]};
-        double call = 0, model = 0;
+        double ns[WAYS] = {0};
         for (size_t i = 0; i < p.logs; i++)
             gen_log(profile, SEED + i, bytes + RECORD_BYTES * p.records * i, p.records);
         check_pool(name, &p);
-        for (unsigned go = 0; go < GOES; go++) { /* by turns, so that both meet the same load */
-            take_best(&call, run_call, &p);
-            take_best(&model, run_model, &p);
-        }
-        printf("%-8s %8zu %12.1f %12.1f %8.2f\n", name, p.records, call, model, call / model);
+        for (unsigned go = 0; go < GOES; go++) /* by turns, so that all meet the same load */
+            for (unsigned way = 0; way < WAYS; way++)
+                take_best(&ns[way], ways[way], &p);
+        printf("%-8s %8zu %12.1f %12.1f %8.2f %9.2f %9.2f\n", name, p.records, ns[CALL], ns[MODEL],
+               ns[CALL] / ns[MODEL], ns[FROM] / ns[CALL], ns[STEPS] / ns[CALL]);
         fflush(stdout);
     }
 }
@@ -153,7 +181,8 @@ int main(int argc, char **argv)
         fprintf(stderr, "usage: speed replay log-file-to-write\n");
         return 1;
     }
-    printf("%-8s %8s %12s %12s %8s\n", "log", "records", "call ns/rec", "model ns/rec", "ratio");
+    printf("%-8s %8s %12s %12s %8s %9s %9s\n", "log", "records", "call ns/rec", "model ns/rec",
+           "ratio", "run_from", "step");
     for (size_t i = 0; i < sizeof order / sizeof *order; i++)
         time_profile(names[order[i]], order[i], log);
     write_log(argv[2], log); /* the last one: random, full length */

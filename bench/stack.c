@@ -1,0 +1,209 @@
+/*
+ * The stack that each call needs, by painting a thread's stack and looking
+ * where the paint is gone; and the smallest stack limit with which the replay
+ * program still runs, in steps of 4 KiB.
+ *
+ *   stack replay log
+ */
+#define _DEFAULT_SOURCE
+#include <fcntl.h>
+#include <pthread.h>
+#include <stdbool.h>
+#include <stdio.h>
+#include <stdlib.h>
+#include <string.h>
+#include <sys/mman.h>
+#include <sys/resource.h>
+#include <sys/wait.h>
+#include <unistd.h>
+
+#include "mcp2515.h"
+
+enum {
+    STACK = 1 << 20,
+    PAINT = 0x5C,
+    RECORDS = 4096,
+    STEP_KIB = 4,
+    MOST_KIB = 8192
+};
+
+static uint8_t chip[MCP2515_CHIP_SIZE];
+static uint8_t records[RECORDS * MCP2515_RECORD_SIZE];
+static uint8_t out[(RECORDS + 1) * MCP2515_LINE_SIZE];
+
+static void die(const char *what)
+{
+    perror(what);
+    exit(1);
+}
+
+/* ---- a call on a painted stack ---- */
+
+static void do_nothing(void)
+{
+}
+
+static void do_run_log(void)
+{
+    mcp2515_run_log(records, sizeof records, out, sizeof out);
+}
+
+static void do_power_on(void)
+{
+    mcp2515_power_on(chip, sizeof chip);
+}
+
+static void do_step(void)
+{
+    for (size_t i = 0; i < RECORDS; i++)
+        mcp2515_step(chip, sizeof chip, records + MCP2515_RECORD_SIZE * i, MCP2515_RECORD_SIZE, out,
+                     MCP2515_ANSWER_SIZE);
+}
+
+static void do_run_from(void)
+{
+    mcp2515_run_from(chip, sizeof chip, records, sizeof records, out, sizeof out);
+}
+
+static void do_hold(void)
+{
+    for (unsigned address = 0; address < 128; address++)
+        out[address] = (uint8_t)mcp2515_hold(chip, sizeof chip, (uint8_t)address);
+}
+
+static void do_read(void)
+{
+    for (unsigned address = 0; address < 128; address++)
+        out[address] = (uint8_t)mcp2515_read(chip, sizeof chip, (uint8_t)address);
+}
+
+static void do_int_is_low(void)
+{
+    out[0] = (uint8_t)mcp2515_int_is_low(chip, sizeof chip);
+}
+
+static void do_render(void)
+{
+    mcp2515_render(chip, sizeof chip, 0, records, sizeof records, out, sizeof out);
+}
+
+static void do_part_refusal(void)
+{
+    out[0] = (uint8_t)mcp2515_part_refusal(0, sizeof records);
+}
+
+static const struct call {
+    const char *name;
+    void (*run)(void);
+} calls[] = {
+    {"mcp2515_run_log", do_run_log},       {"mcp2515_power_on", do_power_on},
+    {"mcp2515_step", do_step},             {"mcp2515_run_from", do_run_from},
+    {"mcp2515_hold", do_hold},             {"mcp2515_read", do_read},
+    {"mcp2515_int_is_low", do_int_is_low}, {"mcp2515_render", do_render},
+    {"mcp2515_part_refusal", do_part_refusal},
+};
+
+static void *call_on_thread(void *argument)
+{
+    const struct call *c = argument;
+    c->run();
+    return NULL;
+}
+
+/* Bytes of a fresh stack that a call leaves unpainted, with what a thread needs. */
+static size_t stack_used(const struct call *c)
+{
+    uint8_t *stack = mmap(NULL, STACK, PROT_READ | PROT_WRITE, MAP_PRIVATE | MAP_ANONYMOUS, -1, 0);
+    pthread_attr_t attributes;
+    pthread_t thread;
+    size_t untouched = 0;
+    if (stack == MAP_FAILED)
+        die("mmap");
+    memset(stack, PAINT, STACK);
+    pthread_attr_init(&attributes);
+    if (pthread_attr_setstack(&attributes, stack, STACK) != 0 ||
+        pthread_create(&thread, &attributes, call_on_thread, (void *)c) != 0 ||
+        pthread_join(thread, NULL) != 0)
+        die("thread");
+    while (untouched < STACK && stack[untouched] == PAINT)
+        untouched++;
+    munmap(stack, STACK);
+    return STACK - untouched;
+}
+
+/* The records of a log over and over, until the calls have seen a good many. */
+static void fill_records(const char *path)
+{
+    FILE *in = fopen(path, "rb");
+    size_t got = in ? fread(records, MCP2515_RECORD_SIZE, RECORDS, in) : 0;
+    if (got == 0)
+        die(path);
+    for (size_t i = got; i < RECORDS; i++)
+        memcpy(records + MCP2515_RECORD_SIZE * i, records + MCP2515_RECORD_SIZE * (i - got),
+               MCP2515_RECORD_SIZE);
+    fclose(in);
+}
+
+static void measure_calls(void)
+{
+    static const struct call nothing = {"nothing", do_nothing};
+    size_t thread = stack_used(&nothing);
+    mcp2515_power_on(chip, sizeof chip);
+    for (size_t i = 0; i < sizeof calls / sizeof *calls; i++) {
+        size_t used = stack_used(&calls[i]);
+        printf("%-22s %6zu bytes of stack\n", calls[i].name, used > thread ? used - thread : 0);
+    }
+}
+
+/* ---- the replay program ---- */
+
+static bool replay_runs(const char *replay, const char *log, unsigned kib)
+{
+    int status;
+    pid_t child = fork();
+    if (child < 0)
+        die("fork");
+    if (child == 0) {
+        struct rlimit limit = {kib * 1024ul, kib * 1024ul};
+        struct rlimit no_core = {0, 0};
+        int null = open("/dev/null", O_WRONLY);
+        if (null < 0 || dup2(null, STDOUT_FILENO) < 0 || setrlimit(RLIMIT_CORE, &no_core) != 0 ||
+            setrlimit(RLIMIT_STACK, &limit) != 0)
+            _exit(127);
+        execl(replay, replay, log, (char *)NULL);
+        _exit(127);
+    }
+    if (waitpid(child, &status, 0) != child)
+        die("waitpid");
+    return WIFEXITED(status) && WEXITSTATUS(status) == 0;
+}
+
+static void measure_replay(const char *replay, const char *log)
+{
+    unsigned fails = 0, runs = MOST_KIB;
+    if (!replay_runs(replay, log, MOST_KIB)) {
+        fprintf(stderr, "%s fails with a stack of %d KiB\n", replay, MOST_KIB);
+        exit(1);
+    }
+    while (runs - fails > STEP_KIB) {
+        unsigned middle = (fails + runs) / 2 / STEP_KIB * STEP_KIB;
+        if (replay_runs(replay, log, middle))
+            runs = middle;
+        else
+            fails = middle;
+    }
+    printf("the replay program runs with a stack limit of %u KiB, and not with %u KiB\n", runs,
+           fails);
+}
+
+int main(int argc, char **argv)
+{
+    if (argc != 3) {
+        fprintf(stderr, "usage: stack replay log\n");
+        return 1;
+    }
+    fill_records(argv[2]);
+    measure_calls();
+    measure_replay(argv[1], argv[2]);
+    return 0;
+}
