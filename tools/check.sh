@@ -218,6 +218,70 @@ run chip "$root/bench/build/logs/empty.log"
 status 0 $? "chip of an empty log"
 say "chip of the sample and of an empty log"
 
+# record BYTE..: sixteen bytes, given in hexadecimal, zeros after them
+record() {
+    printf "$(printf '\\x%s' "$@")"
+    head -c $((16 - $#)) /dev/zero
+}
+
+# session BYTE..: select low, an exchange for each byte, select high
+session() {
+    record 0
+    for byte in "$@"; do record 1 "$byte"; done
+    record 2
+}
+
+# shows LOG LINE..: the chip after the log has these lines
+shows() {
+    run chip "$1"
+    status 0 $? "chip of ${1##*/}"
+    shift
+    for line in "$@"; do
+        grep -qxF -- "$line" "$work/out" || stop "chip: no line '$line' in: $(cat "$work/out")"
+    done
+}
+
+{
+    session 02 20 FF E3 FF 0F # mask 0
+    session 02 04 91 AB 56 78 # filter 1, extended
+    session 02 28 C1 9A 45    # CNF3, CNF2, CNF1
+    session 02 0C 2A 05       # BFPCTRL, TXRTSCTRL
+    session 02 2B 03          # CANINTE
+    session 02 0F 0F          # Normal, OSM
+    record 03 01 02 00 12 37 56 78 A1 A2
+    session 42 24 60 00 00 43 11 22 33 # TXB1: 123h, remote, DLC 3
+    session 82
+    record 04                 # TXB1 goes
+    session 02 0F 4F          # Loopback has to wait
+    record 00
+    record 01 03
+    record 04                 # refused
+} >"$work/busy.log"
+shows "$work/busy.log" \
+    'records        63, refused 1' 'mode           Normal, Loopback is requested and waits' \
+    'INT            low' 'select         low, an instruction is open' 'in flight      TXB1' \
+    'CANCTRL   4Fh  REQOP 2 OSM CLKEN CLKPRE 3' 'CANSTAT   0Ch  OPMOD 0 ICOD 6' \
+    'CANINTE   03h  RX1IE RX0IE' 'CANINTF   01h  RX0IF' 'TXB1CTRL  08h  TXREQ TXP 0' \
+    '               standard 123h, RTR, DLC 3, data 11 22 33 [00 00 00 00 00]' \
+    'RXB0CTRL  01h  RXM 0 FILHIT0' \
+    '               extended 12375678h, DLC 2, data A1 A2 [00 00 00 00 00 00]' \
+    'RXM0           standard 7FFh, data bytes FFh 0Fh; extended 1FFFFF0Fh' \
+    'RXF1           extended 12375678h' 'CNF1      45h  SJW 1 BRP 5' \
+    'CNF2      9Ah  BTLMODE PHSEG1 3 PRSEG 2' 'CNF3      C1h  SOF WAKFIL PHSEG2 1' \
+    'BFPCTRL   2Ah  B1BFS B1BFE B1BFM' 'TXRTSCTRL 05h  B2RTSM B0RTSM'
+{
+    session 02 0F 07
+    session 81
+    for _ in $(seq 32); do
+        record 04
+        record 05 02
+    done
+} >"$work/bus_off.log"
+shows "$work/bus_off.log" 'TEC            256, shown as 255' 'REC            0' \
+    'EFLG      35h  TXBO TXEP TXWAR EWARN' 'CANINTF   A0h  MERRF ERRIF' \
+    'TXB0CTRL  18h  TXERR TXREQ TXP 0' 'in flight      none' 'INT            high'
+say "chip of a log that ends in flight with a request that waits, and of one in bus-off"
+
 # ---- arguments ----
 
 for help in "--help" "replay --help" "chip --help" "replay --refused --help"; do
