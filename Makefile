@@ -16,7 +16,7 @@ PREFIX = /usr/local
 DESTDIR =
 VERSION = $(shell sed -n 's/^.define MCP2515_VERSION "\(.*\)".*/\1/p' include/mcp2515.h)
 
-.PHONY: all sample prove lib tool examples tool-check install uninstall check help clean
+.PHONY: all sample prove lib tool examples tool-check install install-check uninstall check help clean
 .NOTPARALLEL:
 
 all: prove lib tool sample
@@ -63,6 +63,18 @@ install: $(TOOL)
 	install -m 644 $(ARCHIVE) $(DESTDIR)$(PREFIX)/lib/lib$(LIBRARY).a
 	printf 'prefix=%s\nincludedir=$${prefix}/include\nlibdir=$${prefix}/lib\n\nName: mcp2515\nDescription: proved software stand-in for the MCP2515 CAN controller\nVersion: %s\nCflags: -I$${includedir}\nLibs: -L$${libdir} -l%s\n' \
 	    '$(PREFIX)' '$(VERSION)' '$(LIBRARY)' >$(DESTDIR)$(PREFIX)/lib/pkgconfig/mcp2515.pc
+
+# What is installed serves a C program by its pkg-config file.
+INSTALLED = $(CURDIR)/build/installed
+install-check:
+	@echo "== a C program from what make install puts in place"
+	@rm -rf $(INSTALLED)
+	@$(MAKE) -s install PREFIX=$(INSTALLED) DESTDIR= >build/install.log
+	@PKG_CONFIG_PATH=$(INSTALLED)/lib/pkgconfig sh -c '$(CC) $(CFLAGS) examples/whole_log.c $$(pkg-config --cflags --libs mcp2515) -o build/installed_example'
+	@build/installed_example >/dev/null
+	@$(INSTALLED)/bin/mcp2515 --version
+	@$(MAKE) -s uninstall PREFIX=$(INSTALLED) DESTDIR=
+	@test -z "$$(find $(INSTALLED) -type f)" || { echo "make uninstall leaves files" >&2; exit 1; }
 
 uninstall:
 	rm -f $(DESTDIR)$(PREFIX)/bin/mcp2515 $(DESTDIR)$(PREFIX)/include/mcp2515.h
