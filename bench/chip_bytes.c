@@ -26,17 +26,27 @@ enum {
     AT_MASK
 };
 
-/* Place AT_OPEN by number. READ RX BUFFER goes on as a READ that clears a flag. */
+/* Place AT_OPEN by number; READ RX BUFFER goes on as a READ that clears a flag. */
 static const struct {
     uint8_t open;
     uint8_t clears;
 } open_by_number[] = {
-    {OPEN_NONE, 0},          {OPEN_CODE, 0},     {OPEN_READ_ADDRESS, 0},   {OPEN_READ, 0},
-    {OPEN_WRITE_ADDRESS, 0}, {OPEN_WRITE, 0},    {OPEN_MODIFY_ADDRESS, 0}, {OPEN_MODIFY_MASK, 0},
-    {OPEN_MODIFY_DATA, 0},   {OPEN_STATUS, 0},   {OPEN_RX_STATUS, 0},      {OPEN_SPENT, 0},
-    {OPEN_READ, RX0IF},      {OPEN_READ, RX1IF},
+    {OPEN_NONE, 0},
+    {OPEN_CODE, 0},
+    {OPEN_READ_ADDRESS, 0},
+    {OPEN_READ, 0},
+    {OPEN_WRITE_ADDRESS, 0},
+    {OPEN_WRITE, 0},
+    {OPEN_MODIFY_ADDRESS, 0},
+    {OPEN_MODIFY_MASK, 0},
+    {OPEN_MODIFY_DATA, 0},
+    {OPEN_READ, RX0IF},
+    {OPEN_READ, RX1IF},
+    {OPEN_STATUS, 0},
+    {OPEN_RX_STATUS, 0},
+    {OPEN_SPENT, 0}, /* and all above */
 };
-enum { OPEN_NUMBERS = sizeof open_by_number / sizeof *open_by_number, OPEN_ABOVE = 11 };
+enum { OPEN_NUMBERS = sizeof open_by_number / sizeof *open_by_number };
 
 static void decode_registers(const uint8_t *chip, struct model *m)
 {
@@ -63,7 +73,7 @@ static bool has_address(uint8_t open)
 
 static void decode_open(const uint8_t *chip, struct model *m)
 {
-    size_t number = chip[AT_OPEN] < OPEN_NUMBERS ? chip[AT_OPEN] : OPEN_ABOVE;
+    size_t number = chip[AT_OPEN] < OPEN_NUMBERS ? chip[AT_OPEN] : OPEN_NUMBERS - 1;
     m->open = open_by_number[number].open;
     m->clears = open_by_number[number].clears;
     m->selected = m->open != OPEN_NONE;

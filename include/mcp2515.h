@@ -59,7 +59,13 @@ extern "C" {
  *   140      mode by number, from 4 on Configuration
  *   141      buffer in flight, from 3 on none
  *   142      mode requested, from 5 on none
- *   143-145  select line and open instruction by number, its address, its mask
+ *   143      select line and open instruction: 0 select is high; else low, and
+ *            the next byte is 1 a code, 2 the address of a READ, 3 a READ's
+ *            reply, 4 the address of a WRITE, 5 a byte to WRITE, 6 address,
+ *            7 mask, 8 data of a BIT MODIFY, 9 and 10 a reply from RXB0 and
+ *            RXB1, 11 READ STATUS, 12 RX STATUS; from 13 on nothing more
+ *   144      its address (bit 7 does not count), for 3, 5 and 7 to 10
+ *   145      its mask, for 8
  *   146-150  spare, never changed
  *   151      the version, 1
  *
