@@ -31,20 +31,10 @@ static const struct {
     uint8_t open;
     uint8_t clears;
 } open_by_number[] = {
-    {OPEN_NONE, 0},
-    {OPEN_CODE, 0},
-    {OPEN_READ_ADDRESS, 0},
-    {OPEN_READ, 0},
-    {OPEN_WRITE_ADDRESS, 0},
-    {OPEN_WRITE, 0},
-    {OPEN_MODIFY_ADDRESS, 0},
-    {OPEN_MODIFY_MASK, 0},
-    {OPEN_MODIFY_DATA, 0},
-    {OPEN_READ, RX0IF},
-    {OPEN_READ, RX1IF},
-    {OPEN_STATUS, 0},
-    {OPEN_RX_STATUS, 0},
-    {OPEN_SPENT, 0}, /* and all above */
+    {OPEN_NONE, 0},          {OPEN_CODE, 0},     {OPEN_READ_ADDRESS, 0},   {OPEN_READ, 0},
+    {OPEN_WRITE_ADDRESS, 0}, {OPEN_WRITE, 0},    {OPEN_MODIFY_ADDRESS, 0}, {OPEN_MODIFY_MASK, 0},
+    {OPEN_MODIFY_DATA, 0},   {OPEN_READ, RX0IF}, {OPEN_READ, RX1IF},       {OPEN_STATUS, 0},
+    {OPEN_RX_STATUS, 0},     {OPEN_SPENT, 0}, /* and all above */
 };
 enum { OPEN_NUMBERS = sizeof open_by_number / sizeof *open_by_number };
 

@@ -19,13 +19,7 @@
 
 #include "mcp2515.h"
 
-enum {
-    STACK = 1 << 20,
-    PAINT = 0x5C,
-    RECORDS = 4096,
-    STEP_KIB = 4,
-    MOST_KIB = 8192
-};
+enum { STACK = 1 << 20, PAINT = 0x5C, RECORDS = 4096, STEP_KIB = 4, MOST_KIB = 8192 };
 
 static uint8_t chip[MCP2515_CHIP_SIZE];
 static uint8_t records[RECORDS * MCP2515_RECORD_SIZE];
@@ -96,39 +90,54 @@ static const struct call {
     const char *name;
     void (*run)(void);
 } calls[] = {
-    {"mcp2515_run_log", do_run_log},       {"mcp2515_power_on", do_power_on},
-    {"mcp2515_step", do_step},             {"mcp2515_run_from", do_run_from},
-    {"mcp2515_hold", do_hold},             {"mcp2515_read", do_read},
-    {"mcp2515_int_is_low", do_int_is_low}, {"mcp2515_render", do_render},
-    {"mcp2515_part_refusal", do_part_refusal},
+    {"no call at all", do_nothing},    {"mcp2515_run_log", do_run_log},
+    {"mcp2515_power_on", do_power_on}, {"mcp2515_step", do_step},
+    {"mcp2515_run_from", do_run_from}, {"mcp2515_hold", do_hold},
+    {"mcp2515_read", do_read},         {"mcp2515_int_is_low", do_int_is_low},
+    {"mcp2515_render", do_render},     {"mcp2515_part_refusal", do_part_refusal},
 };
 
-static void *call_on_thread(void *argument)
+struct painted {
+    const struct call *call;
+    volatile uint8_t *stack; /* its lowest byte */
+    size_t used;
+};
+
+/*
+ * Paints all of the stack below this frame, calls, and looks for the lowest byte
+ * without paint. No function but the call may run between the loops: the stack
+ * pointer is taken by hand (x86-64).
+ */
+static void *call_on_paint(void *argument)
 {
-    const struct call *c = argument;
-    c->run();
+    struct painted *p = argument;
+    volatile uint8_t *top, *at;
+    __asm__ volatile("mov %%rsp, %0" : "=r"(top));
+    for (at = p->stack; at < top; at++)
+        *at = PAINT;
+    p->call->run();
+    for (at = p->stack; at < top && *at == PAINT; at++)
+        continue;
+    p->used = (size_t)(top - at);
     return NULL;
 }
 
-/* Bytes of a fresh stack that a call leaves unpainted, with what a thread needs. */
+/* Bytes of stack that a call needs, with its return address and the few of its wrapper here. */
 static size_t stack_used(const struct call *c)
 {
-    uint8_t *stack = mmap(NULL, STACK, PROT_READ | PROT_WRITE, MAP_PRIVATE | MAP_ANONYMOUS, -1, 0);
+    void *stack = mmap(NULL, STACK, PROT_READ | PROT_WRITE, MAP_PRIVATE | MAP_ANONYMOUS, -1, 0);
+    struct painted p = {c, stack, 0};
     pthread_attr_t attributes;
     pthread_t thread;
-    size_t untouched = 0;
     if (stack == MAP_FAILED)
         die("mmap");
-    memset(stack, PAINT, STACK);
     pthread_attr_init(&attributes);
     if (pthread_attr_setstack(&attributes, stack, STACK) != 0 ||
-        pthread_create(&thread, &attributes, call_on_thread, (void *)c) != 0 ||
+        pthread_create(&thread, &attributes, call_on_paint, &p) != 0 ||
         pthread_join(thread, NULL) != 0)
         die("thread");
-    while (untouched < STACK && stack[untouched] == PAINT)
-        untouched++;
     munmap(stack, STACK);
-    return STACK - untouched;
+    return p.used;
 }
 
 /* The records of a log over and over, until the calls have seen a good many. */
@@ -146,13 +155,9 @@ static void fill_records(const char *path)
 
 static void measure_calls(void)
 {
-    static const struct call nothing = {"nothing", do_nothing};
-    size_t thread = stack_used(&nothing);
     mcp2515_power_on(chip, sizeof chip);
-    for (size_t i = 0; i < sizeof calls / sizeof *calls; i++) {
-        size_t used = stack_used(&calls[i]);
-        printf("%-22s %6zu bytes of stack\n", calls[i].name, used > thread ? used - thread : 0);
-    }
+    for (size_t i = 0; i < sizeof calls / sizeof *calls; i++)
+        printf("%-22s %6zu bytes of stack\n", calls[i].name, stack_used(&calls[i]));
 }
 
 /* ---- the replay program ---- */
