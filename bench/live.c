@@ -172,7 +172,7 @@ static void check_bytes(const struct pair *p, const uint8_t *before, bool refuse
         print_state(p, before);
         live_stop("a refused record changed the chip");
     }
-    if (memcmp(before + 146, p->chip + 146, CHIP - 146) != 0)
+    if (memcmp(before + SPARE_FROM, p->chip + SPARE_FROM, CHIP - SPARE_FROM) != 0)
         live_stop("a spare byte or the version was changed");
     chip_decode(p->chip, &decoded);
     if (memcmp(&decoded, &p->m, sizeof decoded) != 0) {

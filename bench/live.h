@@ -21,6 +21,9 @@ enum live_call {
     CALLS
 };
 
+/* From this place on no call but power-on changes a byte of a chip. */
+enum { SPARE_FROM = 146 };
+
 /* What every call lends; filled anew by each lend. */
 extern struct fence chip_fence, in_fence, out_fence;
 

@@ -56,7 +56,8 @@ static void check_untouched(const struct edge *e, int64_t result, size_t written
         live_stop("a byte before a buffer was changed");
     if (result < 0 && memcmp(e->before, e->chip, e->chip_len) != 0)
         live_stop("a refused call changed the chip");
-    if (result >= 0 && memcmp(e->before + 146, e->chip + 146, e->chip_len - 146) != 0)
+    if (result >= 0 &&
+        memcmp(e->before + SPARE_FROM, e->chip + SPARE_FROM, e->chip_len - SPARE_FROM) != 0)
         live_stop("a spare byte or the version was changed");
     if (!fence_filled(e->out + written, e->out_len - written))
         live_stop("a byte past the answer was changed");

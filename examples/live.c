@@ -1,9 +1,9 @@
 /*
- * A small firmware against a live chip. It sets the chip up, waits for INT,
- * polls READ STATUS, fetches what came by READ RX BUFFER and answers by LOAD TX
- * BUFFER and RTS. The bus does not wait for it: frames come between any two
- * bytes. Then a change from Normal to Configuration that a waiting message
- * holds back, step by step.
+ * A small firmware against a live chip. It sets the chip up, polls READ STATUS,
+ * fetches what came by READ RX BUFFER and answers by LOAD TX BUFFER and RTS. The
+ * bus does not wait for it: frames come between any two bytes. INT is looked at
+ * after each step. Then a change from Normal to Configuration that a waiting
+ * message holds back, step by step.
  *
  * The program ends with status 1 if something is not as it has to be.
  */
