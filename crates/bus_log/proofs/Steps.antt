@@ -3,29 +3,12 @@ use mathlib.Core.Path.{_≡_, refl, ap, _∙_}
 use mathlib.Core.List.{List, [], _∷_, _++_}
 use Prim.Native.Nat.{ℕ, zero, suc, _+_, _*_, _-_, _<_, _≤_}
 use native.Mathlib.Omega.{arith}
-use borrow.Author.Tests.{le-leb}
-use lib.ListN.{length, take, drop, getD, length-drop}
-use lib.Seq.{drop-drop, take-append-le, drop-append-le, getD-drop}
-use Rattle.records.specs.Records.{byteAt}
+use lib.ListN.{length, take, drop, length-drop}
+use lib.Seq.{drop-drop, take-all, take-append-le, drop-append-le}
 use Rattle.mcp2515.specs.declared.Chip.{Chip}
 use Rattle.mcp2515.specs.declared.Stepped.{Stepped}
 use Rattle.mcp2515.specs.Step.{stepOf}
 use Rattle.bus_log.specs.Log.{recordSize, recordAt, stepsOf, lastChip}
-
--- the record at a place of the log is the first of what is left there
-pub record-within : (log : List ℕ) (at : ℕ) → at + recordSize ≤ length log → recordAt log at ≡ take recordSize (drop at log)
-unfolding recordAt
-record-within log at h = simp (le-leb (at + recordSize) (length log) h)
-
-first-of : (l : List ℕ) → getD (take recordSize l) 0 0 ≡ getD l 0 0
-first-of [] = refl
-first-of (x ∷ l) = refl
-
--- its first byte is the byte there
-pub first-byte : (log : List ℕ) (at : ℕ) → at + recordSize ≤ length log → byteAt (recordAt log at) 0 ≡ getD log at 0
-first-byte log at h =
-    let here : at + 0 ≡ at = omega arith in
-    rw (record-within log at h) (first-of (drop at log) ∙ getD-drop at log 0 0 ∙ rw here)
 
 -- the steps from a place on: that of the record there, and those from the next place on
 pub next-step : (left : ℕ) (c : Chip) (log : List ℕ) (at : ℕ) → 0 < left → at + left * recordSize ≤ length log
@@ -34,9 +17,13 @@ pub next-step : (left : ℕ) (c : Chip) (log : List ℕ) (at : ℕ) → 0 < left
 unfolding stepsOf
 next-step zero c log at more fits = absurd (omega arith)
 next-step (suc n) c log at more fits =
-    let within : at + recordSize ≤ length log = omega arith in
     let less : suc n - 1 ≡ n = omega arith in
-    simp (record-within log at within, less, drop-drop recordSize at log)
+    simp (less, drop-drop recordSize at log)
+
+-- a log that is one record
+pub one-step : (c : Chip) (r : List ℕ) → length r ≡ recordSize → stepsOf 1 c r ≡ stepOf c r ∷ []
+unfolding stepsOf
+one-step c r e = ap (λ (l : List ℕ). stepOf c l ∷ []) (take-all recordSize r (omega arith))
 
 -- the chip after them
 pub next-chip : (left : ℕ) (c : Chip) (log : List ℕ) (at : ℕ) → 0 < left → at + left * recordSize ≤ length log

@@ -5,11 +5,12 @@ use Prim.Native.Nat.{ℕ, zero, suc, _%_}
 use lib.IntN.{ℤ}
 use lib.ListN.{length, take, drop}
 use Rattle.records.specs.declared.Outcome.{Outcome}
-use Rattle.image.specs.Image.{powerOnBytes}
+use Rattle.image.specs.Image.{imageSize, powerOnBytes, RefusedKept}
+use Rattle.controller.specs.Events.{notAnImage}
 use Rattle.mcp2515.specs.declared.Chip.{Chip}
-use Rattle.mcp2515.specs.Step.{chipAfter, outcomes}
-use Rattle.mcp2515.specs.ChipImage.{chipOf}
-use Rattle.bus_log.specs.Log.{recordSize, recordsIn, stepsOf, lastChip, answersOf}
+use Rattle.mcp2515.specs.Step.{outcome, nextChip, chipAfter, outcomes}
+use Rattle.mcp2515.specs.ChipImage.{chipOf, Moved}
+use Rattle.bus_log.specs.Log.{recordSize, recordsIn, stepsOf, lastChip, RefusedStay, answersOf}
 use Rattle.bus_log.specs.Run.{answerRoom, runRefusal, callResult, answersAfter, runResult, runAnswers}
 use Rattle.bus_log.specs.Held.{heldRefusal, Held}
 
@@ -28,6 +29,14 @@ fromAnswers m log answers = answersAfter (fromRefusal m log answers) (chipOf m) 
 -- the chip after the records of a log
 abbrev pub chipFrom : Chip → List ℕ → Chip
 chipFrom c log = lastChip c (stepsOf (recordsIn (length log)) c log)
+
+-- what the run of one record promises over an image m, which it leaves as n, and a record r of 16 bytes; over any other bytes o refuses
+-- a field. Refused, no byte changes
+pub record RecordRun (m r : List ℕ) (o : Outcome) (n : List ℕ) : Type 0 where
+  pub told : length m ≡ imageSize → length r ≡ recordSize → o ≡ outcome (chipOf m) r
+  pub moved : length m ≡ imageSize → length r ≡ recordSize → Moved m n (nextChip (chipOf m) r)
+  pub other : ((length m ≡ imageSize) × (length r ≡ recordSize) → ⊥) → o ≡ notAnImage
+  pub kept : RefusedKept (o .refusal) m n
 
 -- ---- laws that the proofs show
 -- from the bytes of power-on it is the run from power-on
@@ -76,6 +85,8 @@ pub record RunningFrom (m log answers n after : List ℕ) (r : ℤ) : Type 0 whe
   pub result : r ≡ fromResult m log answers
   pub buffer : after ≡ fromAnswers m log answers
   pub chip : Held (fromRefusal m log answers) m n (chipFrom (chipOf m) log)
+  -- a log of which the chip refuses each record changes no byte of it
+  pub kept : RefusedStay (stepsOf (recordsIn (length log)) (chipOf m) log) m n
   pub power-on : FromPowerOn
   pub join : RunsJoin
   pub singly : RecordByRecord

@@ -1,9 +1,10 @@
 -- A bus log: records of 16 bytes with no header, each a step of the chip. Assumes nothing: these are definitions.
-use mathlib.Core.Bool.{cond}
+use mathlib.Core.Path.{_≡_}
+use mathlib.Core.Bool.{Bool, true, not, _&&_}
 use mathlib.Core.List.{List, [], _∷_}
-use Prim.Native.Nat.{ℕ, zero, suc, _+_, _/_}
-use lib.Dec.{leb}
-use lib.ListN.{length, take, drop, replicate}
+use Prim.Native.Nat.{ℕ, zero, suc, _/_}
+use lib.Dec.{eqb}
+use lib.ListN.{take, drop}
 use Rattle.mcp2515.specs.declared.Chip.{Chip}
 use Rattle.mcp2515.specs.declared.Stepped.{Stepped}
 use Rattle.mcp2515.specs.Step.{stepOf}
@@ -32,9 +33,9 @@ countRefusal = 8
 abbrev pub recordsIn : ℕ → ℕ
 recordsIn size = size / recordSize
 
--- the record at a place of a log, and zeros where no whole record is left there
-unfoldable pub recordAt : List ℕ → ℕ → List ℕ
-recordAt log at = cond (leb (at + recordSize) (length log)) (take recordSize (drop at log)) (replicate recordSize 0)
+-- the record at a place of a log
+abbrev pub recordAt : List ℕ → ℕ → List ℕ
+recordAt log at = take recordSize (drop at log)
 
 -- the steps of the first n records of a log, each over the chip that the one before left
 unfoldable pub stepsOf : ℕ → Chip → List ℕ → List Stepped
@@ -46,6 +47,15 @@ stepsOf (suc n) c log =
 unfoldable pub lastChip : Chip → List Stepped → Chip
 lastChip c [] = c
 lastChip c (s ∷ ss) = lastChip (s .chip) ss
+
+-- whether each of some steps was refused
+unfoldable pub allRefused : List Stepped → Bool
+allRefused [] = true
+allRefused (s ∷ ss) = not (eqb (s .refusal) 0) && allRefused ss
+
+-- where each step was refused, the bytes m of the chip stay: n after them is m
+abbrev pub RefusedStay : List Stepped → List ℕ → List ℕ → Type 0
+RefusedStay ss m n = allRefused ss ≡ true → n ≡ m
 
 -- the answer bytes of some steps: refusal and answer of each
 unfoldable pub answersOf : List Stepped → List ℕ

@@ -1,17 +1,20 @@
 // A recorded bus log, run through the chip from power-on or from a chip that a C program holds.
 ghost use mathlib.Core.Path.{_≡_};
 ghost use Prim.Native.Nat.{_+_, _*_, _≤_};
-ghost use lib.ListN.{length, take, drop, replicate};
+ghost use lib.ListN.{length, take, drop};
 ghost use lib.Seq.{sets};
 ghost use lib.IntN.{pos, negℤ};
 ghost use Rattle.records.specs.Records.{recordOf};
 ghost use Rattle.image.specs.Image.{imageSize};
 ghost use Rattle.mcp2515.specs.ChipImage.{chipOf, Moved};
-ghost use Rattle.bus_log.specs.Log.{recordSize, recordAt, stepsOf, lastChip, answersOf};
+ghost use Rattle.bus_log.specs.Log.{recordSize, stepsOf, lastChip, RefusedStay, answersOf};
 ghost use Rattle.bus_log.specs.Run.{answerRoom, runRefusal, runResult, runAnswers};
 ghost use Rattle.bus_log.specs.Held.{heldRefusal};
-ghost use Rattle.bus_log.specs.From.{RunningFrom};
+ghost use Rattle.bus_log.specs.From.{RecordRun, RunningFrom};
+use image::SIZE;
 use records::Fields;
+use records::Outcome;
+use records::REFUSED_FIELD;
 
 pub const RECORD_SIZE: usize = 16;
 
@@ -57,39 +60,12 @@ fn fields_within(log: &[u8], at: usize) -> Fields
     }
 }
 
-fn no_fields() -> Fields
-    ensures { λ r. ⌜ recordOf r ≡ replicate recordSize 0 ⌝ }
-{
-    Fields {
-        kind: 0,
-        field: 0,
-        length: 0,
-        spare: 0,
-        identifier: 0,
-        data: 0,
-    }
-}
-
-// The record at a place of the log. Zeros stand for one that is not whole, so that a caller has no
-// length to show.
-pub fn fields_at(log: &[u8], at: usize) -> Fields
-    ensures { λ r. ⌜ recordOf r ≡ recordAt (now (log .entry)) at ⌝ }
-{
-    let size = log.len();
-    if size < at {
-        return no_fields();
-    }
-    if size - at < RECORD_SIZE {
-        return no_fields();
-    }
-    fields_within(log, at)
-}
-
 // Runs count records over an image and stores refusal and answer of each.
 fn run_records<'a>(image: &'a mut [u8], log: &'a [u8], answers: &'a mut [u8], count: usize)
     requires { ⌜ (length (now image) ≡ imageSize) × (count * recordSize ≤ length (now log)) × (answerRoom count ≤ length (now answers)) ⌝ }
     ensures { λ _. ⌜ now (answers .exit) ≡ sets (now (answers .entry)) 0 (answersOf (stepsOf count (chipOf (now (image .entry))) (now (log .entry)))) ⌝ }
     ensures { λ _. ⌜ Moved (now (image .entry)) (now (image .exit)) (lastChip (chipOf (now (image .entry))) (stepsOf count (chipOf (now (image .entry))) (now (log .entry)))) ⌝ }
+    ensures { λ _. ⌜ RefusedStay (stepsOf count (chipOf (now (image .entry))) (now (log .entry))) (now (image .entry)) (now (image .exit)) ⌝ }
 {
     let mut left = count;
     let mut at = 0;
@@ -102,6 +78,31 @@ fn run_records<'a>(image: &'a mut [u8], log: &'a [u8], answers: &'a mut [u8], co
         at += RECORD_SIZE;
         out += ANSWER_SIZE;
         left -= 1;
+    }
+}
+
+// One record where the chip lies, by the loop of the run: so the step is compiled into one place, where
+// the run is fastest.
+pub fn run_record<'a>(image: &'a mut [u8], record: &'a [u8]) -> Outcome
+    ensures { λ o. ⌜ RecordRun (now (image .entry)) (now («record» .entry)) o (now (image .exit)) ⌝ }
+{
+    if image.len() != SIZE {
+        return Outcome {
+            refusal: REFUSED_FIELD,
+            answer: 0,
+        };
+    }
+    if record.len() != RECORD_SIZE {
+        return Outcome {
+            refusal: REFUSED_FIELD,
+            answer: 0,
+        };
+    }
+    let mut told = [0u8; ANSWER_SIZE];
+    run_records(image, record, &mut told, 1);
+    Outcome {
+        refusal: told[0],
+        answer: told[1],
     }
 }
 

@@ -2,3 +2,4 @@ pub mod Decimal
 pub mod Line
 pub mod Stretch
 pub mod Storing
+pub mod Text

@@ -5,10 +5,9 @@ use Prim.Native.Nat.{ℕ, _+_, _*_, _≤_}
 use lib.ListN.{length}
 use lib.Seq.{sets}
 use Rattle.mcp2515.specs.declared.Chip.{Chip}
-use Rattle.bus_log.specs.Log.{stepsOf, lastChip}
-use Rattle.log_text.specs.declared.Rendered.{Rendered}
+use Rattle.bus_log.specs.Log.{stepsOf}
 use Rattle.log_text.specs.Line.{linesOf}
-use Rattle.log_text.specs.Stretch.{lineRoom}
+use Rattle.log_text.specs.Stretch.{lineRoom, stretchRoom, replayOf}
 
 -- text was stored at a place, and end is the place after it
 pub record Stored (before : List ℕ) (at : ℕ) (text after : List ℕ) (end : ℕ) : Type 0 where
@@ -16,9 +15,11 @@ pub record Stored (before : List ℕ) (at : ℕ) (text after : List ℕ) (end : 
   pub place : end ≡ at + length text
 
 -- the lines of count records after n others were stored from the start on
-pub record Lined (c : Chip) (n count : ℕ) (part before after : List ℕ) (r : Rendered) : Type 0 where
-  pub text : Stored before 0 (linesOf n (stepsOf count c part)) after (r .len)
-  pub most : r .len ≤ count * lineRoom
-  pub refusal : r .refusal ≡ 0
-  pub number : r .number ≡ n + count
-  pub chip : r .chip ≡ lastChip c (stepsOf count c part)
+pub record Lined (c : Chip) (n count : ℕ) (part before after : List ℕ) (end : ℕ) : Type 0 where
+  pub text : Stored before 0 (linesOf n (stepsOf count c part)) after end
+  pub most : end ≤ count * lineRoom
+
+-- the text of a stretch was stored from the start on
+pub record Told (c : Chip) (n : ℕ) (part before after : List ℕ) (end : ℕ) : Type 0 where
+  pub text : Stored before 0 (replayOf c n part .text) after end
+  pub most : end ≤ stretchRoom (length part)

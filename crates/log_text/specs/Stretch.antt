@@ -73,6 +73,10 @@ lineRoom = 19
 abbrev pub stretchRoom : ℕ → ℕ
 stretchRoom size = (recordsIn size + 1) * lineRoom
 
+-- refusal 7 where the output is shorter than that, or 0
+abbrev pub shortRoom : ℕ → ℕ → ℕ
+shortRoom size room = cond (ltb room (stretchRoom size)) roomRefusal 0
+
 -- the answer to a stretch: what its replay leaves, with the length of the text; or refusal 7 where the output is too short
 unfoldable pub renderedOf : Chip → ℕ → List ℕ → ℕ → Rendered
 renderedOf c number part room =

@@ -3,11 +3,22 @@ ghost use mathlib.Core.Path.{_≡_};
 ghost use mathlib.Core.List.{[], _∷_};
 ghost use Prim.Native.Nat.{_+_, _*_, _≤_, _<_, _^_, min};
 ghost use lib.ListN.{length};
-ghost use Rattle.bus_log.specs.Log.{recordSize};
+ghost use Rattle.image.specs.Image.{imageSize};
+ghost use Rattle.mcp2515.specs.ChipImage.{chipOf, Moved};
+ghost use Rattle.bus_log.specs.Log.{recordSize, stepsOf, lastChip};
 ghost use Rattle.log_text.specs.Decimal.{decimalOf};
 ghost use Rattle.log_text.specs.Line.{fieldOf, lineOf};
-ghost use Rattle.log_text.specs.Stretch.{lineRoom, recordsLeft, stretchRefusal, Rendering};
-ghost use Rattle.log_text.specs.Storing.{Stored, Lined};
+ghost use Rattle.log_text.specs.Stretch.{
+  lineRoom,
+  recordsLeft,
+  stretchRefusal,
+  stretchRoom,
+  shortRoom,
+  replayOf,
+  Rendering,
+};
+ghost use Rattle.log_text.specs.Storing.{Stored, Lined, Told};
+ghost use Rattle.log_text.specs.Text.{TextHeld};
 use bus_log::COUNT_REFUSAL;
 use bus_log::LENGTH_REFUSAL;
 use bus_log::MAX_RECORDS;
@@ -65,29 +76,32 @@ fn put_line(out: &mut [u8], at: usize, number: u64, refusal: u8, answer: u8) -> 
     put_field(out, third, answer as u64, b'\n')
 }
 
-// The lines of count records, after number others and over the chip that they left.
-fn put_records(chip: Chip, number: u32, part: &[u8], count: usize, out: &mut [u8]) -> Rendered
-    requires { ⌜ (count * recordSize ≤ length (now part)) × (count * lineRoom ≤ length (now out)) × (number + count < 2 ^ 32) ⌝ }
-    ensures { λ r. ⌜ Lined chip number count (now (part .entry)) (now (out .entry)) (now (out .exit)) r ⌝ }
+// The lines of count records, after number others and over the chip that they left, which lies in image.
+// Returns the bytes of text.
+fn put_records<'a>(
+    image: &'a mut [u8],
+    number: u32,
+    part: &'a [u8],
+    count: usize,
+    out: &'a mut [u8],
+) -> usize
+    requires { ⌜ (length (now image) ≡ imageSize) × (count * recordSize ≤ length (now part)) × (count * lineRoom ≤ length (now out)) × (number + count < 2 ^ 32) ⌝ }
+    ensures { λ r. ⌜ Lined (chipOf (now (image .entry))) number count (now (part .entry)) (now (out .entry)) (now (out .exit)) r ⌝ }
+    ensures { λ _. ⌜ Moved (now (image .entry)) (now (image .exit)) (lastChip (chipOf (now (image .entry))) (stepsOf count (chipOf (now (image .entry))) (now (part .entry)))) ⌝ }
 {
-    let mut image = mcp2515::pack(chip);
     let mut left = count;
     let mut at = 0;
     let mut len = 0;
     let mut n = number;
     while left > 0 {
-        let told = mcp2515::step_in_place(&mut image, bus_log::fields_at(part, at));
+        let end = at + RECORD_SIZE;
+        let told = bus_log::run_record(image, &part[at..end]);
         len = put_line(out, len, n as u64 + 1, told.refusal, told.answer);
         n += 1;
-        at += RECORD_SIZE;
+        at = end;
         left -= 1;
     }
-    Rendered {
-        refusal: 0,
-        len,
-        number: n,
-        chip: mcp2515::unpack(image),
-    }
+    len
 }
 
 // How many records may still be run after number of them.
@@ -106,7 +120,7 @@ fn least(a: usize, b: usize) -> usize
 
 // The refusal that ends the run in a stretch of size bytes, or 0. Past the limit only a whole record is
 // one too many; a short one is short.
-fn end_refusal(number: u32, size: usize) -> u8
+pub fn end_refusal(number: u32, size: usize) -> u8
     ensures { λ r. ⌜ r ≡ stretchRefusal number size ⌝ }
 {
     if records_left(number) < size / RECORD_SIZE {
@@ -118,13 +132,39 @@ fn end_refusal(number: u32, size: usize) -> u8
     0
 }
 
-// The text of a stretch of the log, after number records and over the chip that they left. A line for
-// each whole record and one more is the room that it asks, whatever the text needs.
+// A line for each whole record and one more is the room that a stretch asks, whatever its text needs.
+fn room_refusal(part: &[u8], room: usize) -> u8
+    ensures { λ r. ⌜ r ≡ shortRoom (length (now (part .entry))) room ⌝ }
+{
+    if room < (part.len() / RECORD_SIZE + 1) * LINE_ROOM {
+        return ROOM_REFUSAL;
+    }
+    0
+}
+
+// The text of a stretch of the log, after number records and over the chip that they left, which lies in
+// image. Returns the bytes of text.
+fn put_stretch<'a>(image: &'a mut [u8], number: u32, part: &'a [u8], out: &'a mut [u8]) -> usize
+    requires { ⌜ (length (now image) ≡ imageSize) × (stretchRoom (length (now part)) ≤ length (now out)) ⌝ }
+    ensures { λ r. ⌜ Told (chipOf (now (image .entry))) number (now (part .entry)) (now (out .entry)) (now (out .exit)) r ⌝ }
+    ensures { λ _. ⌜ Moved (now (image .entry)) (now (image .exit)) (replayOf (chipOf (now (image .entry))) number (now (part .entry)) .chip) ⌝ }
+{
+    let size = part.len();
+    let count = least(size / RECORD_SIZE, records_left(number));
+    let len = put_records(image, number, part, count, out);
+    let refusal = end_refusal(number, size);
+    if refusal == 0 {
+        return len;
+    }
+    put_line(out, len, number as u64 + count as u64 + 1, refusal, 0)
+}
+
+// The text of a stretch over a chip by value.
 pub fn render_stretch(chip: Chip, number: u32, part: &[u8], out: &mut [u8]) -> Rendered
     ensures { λ r. ⌜ Rendering chip number (now (part .entry)) (now (out .entry)) (now (out .exit)) r ⌝ }
 {
-    let records = part.len() / RECORD_SIZE;
-    if out.len() < (records + 1) * LINE_ROOM {
+    let size = part.len();
+    if room_refusal(part, out.len()) > 0 {
         return Rendered {
             refusal: ROOM_REFUSAL,
             len: 0,
@@ -132,20 +172,25 @@ pub fn render_stretch(chip: Chip, number: u32, part: &[u8], out: &mut [u8]) -> R
             chip,
         };
     }
-    let count = least(records, records_left(number));
-    let lines = put_records(chip, number, part, count, out);
-    let refusal = end_refusal(number, part.len());
-    if refusal == 0 {
-        return lines;
-    }
-    let len = lines.len;
-    let last = lines.number;
-    let held = lines.chip;
-    let end = put_line(out, len, last as u64 + 1, refusal, 0);
+    let mut image = mcp2515::pack(chip);
+    let len = put_stretch(&mut image, number, part, out);
+    let count = least(size / RECORD_SIZE, records_left(number));
     Rendered {
-        refusal,
-        len: end,
-        number: last,
-        chip: held,
+        refusal: end_refusal(number, size),
+        len,
+        number: number + count as u32,
+        chip: mcp2515::unpack(image),
     }
+}
+
+// The text of a stretch over a chip that a C program holds, left there as the stretch leaves it: returns
+// the bytes of text, or changes nothing and returns minus the refusal.
+pub fn render_held<'a>(chip: &'a mut [u8], number: u32, part: &'a [u8], text: &'a mut [u8]) -> i64
+    ensures { λ r. ⌜ TextHeld (now (chip .entry)) number (now (part .entry)) (now (text .entry)) (now (chip .exit)) (now (text .exit)) r ⌝ }
+{
+    let refusal = bus_log::held_refusal(chip, room_refusal(part, text.len()));
+    if refusal > 0 {
+        return bus_log::minus(refusal);
+    }
+    put_stretch(chip, number, part, text) as i64
 }

@@ -44,6 +44,7 @@ returns c =
       result = toZ-ofZ {w = w64} (record { sfits = c .minus .ok }) ∙ c .minus .ensures ∙ rw (← same, t);
       buffer = rw (← same, t);
       chip = held-kept (λ z. let none : r ≡ 0 = same ∙ z in omega arith);
+      kept = λ _. refl;
       power-on = from-power-on;
       join = runs-join;
       singly = record-by-record;
@@ -78,7 +79,8 @@ returns-2 c =
     record {
       result = rw none (toZ-pos w64 (omega arith));
       buffer = rw none (ran .0 ∙ answers-first n (chipOf (a .chip .now)) (a .log .now) (a .answers .now) (accepted _ _ (both .1) .room));
-      chip = held-moved (both .0) none (ran .1);
+      chip = held-moved (both .0) none (ran .1 .0);
+      kept = ran .1 .1;
       power-on = from-power-on;
       join = runs-join;
       singly = record-by-record;

@@ -1,17 +1,19 @@
 use native.Mathlib.Omega.{arith}
-use mathlib.Core.Path.{_≡_, refl, sym, _∙_}
-use Prim.Native.Nat.{_+_, _*_, _-_, _≤_}
-use mathlib.Core.List.{[], _∷_}
+use mathlib.Core.Path.{_≡_, refl, ap, sym, _∙_}
+use mathlib.Core.Bool.{true}
+use Prim.Native.Nat.{ℕ, _+_, _*_, _-_, _≤_}
+use mathlib.Core.List.{List, [], _∷_}
 use lib.ListN.{length, drop, length-set}
 use lib.Seq.{sets, length-sets}
 use Rattle.image.specs.Image.{imageSize}
-use Rattle.mcp2515.specs.Step.{stepOf}
+use Rattle.records.specs.declared.Outcome.{Outcome}
+use Rattle.mcp2515.specs.Step.{stepOf, outcome}
 use Rattle.mcp2515.specs.ChipImage.{chipOf}
-use Rattle.bus_log.specs.Log.{recordSize, recordAt, stepsOf, lastChip, answersOf}
+use Rattle.bus_log.specs.Log.{recordSize, recordAt, stepsOf, lastChip, allRefused, answersOf}
 use Rattle.bus_log.specs.Run.{answerRoom}
-use Rattle.bus_log.proofs.Advance.{ran}
+use Rattle.bus_log.proofs.Advance.{ran, first-refused}
 use Rattle.bus_log.proofs.Answers.{store-step}
-use Rattle.bus_log.proofs.Steps.{record-within, next-step, next-chip}
+use Rattle.bus_log.proofs.Steps.{next-step, next-chip}
 use borrow.Author.Needs.{needs}
 use Rattle.bus_log.proofs.run_records.Statement.{statement}
 use Rattle.bus_log.proofs.run_records.Tie as tie
@@ -25,12 +27,13 @@ Inv-loop image₀ log answers₀ count left₀ at₀ out₀ image answers left a
     × (sets answers out (answersOf (stepsOf left (chipOf image) (drop at log))) ≡ sets answers₀ 0 (answersOf (stepsOf count (chipOf image₀) log)))
     × (drop 146 image ≡ drop 146 image₀)
     × (lastChip (chipOf image) (stepsOf left (chipOf image) (drop at log)) ≡ lastChip (chipOf image₀) (stepsOf count (chipOf image₀) log))
+    × (allRefused (stepsOf count (chipOf image₀) log) ≡ true → (image ≡ image₀) × (allRefused (stepsOf left (chipOf image) (drop at log)) ≡ true))
 
 abbrev μ-loop : tie.MeasureT-loop
 μ-loop image₀ log answers₀ count left₀ at₀ out₀ image answers left at out = left
 
 loop-holds : tie.Need-loop-holds Inv-loop μ-loop
-loop-holds c = (c .before .before .before .pre .0, omega arith, omega arith, refl, refl, refl, refl)
+loop-holds c = (c .before .before .before .pre .0, omega arith, omega arith, refl, refl, refl, refl, λ h. (refl, h))
 
 add-second : tie.Need-add-second Inv-loop μ-loop
 add-second c = search needs
@@ -66,7 +69,7 @@ loop-again c =
     let r = recordAt log (l .at) in
     let s = stepOf (chipOf (l .image)) r in
     let rest = stepsOf (l .left - 1) (s .chip) (drop (l .at + recordSize) log) in
-    let took = c .before .before .before .fields-within .ensures ∙ sym (record-within log (l .at) (omega arith)) in
+    let took = c .before .before .before .fields-within .ensures in
     let w = ran (l .image) (c .before .before .step-in-place .last .0) (c .before .before .before .fields-within .result) r (l .answers) (l .out) (c .before .before .step-in-place .result) _ (l .inv .0) took (c .before .before .step-in-place .ensures .0) (c .before .before .step-in-place .ensures .1 .0) in
     let kept : length (sets (l .answers) (l .out) (answersOf (s ∷ []))) ≡ length (l .answers) = length-sets (l .answers) (l .out) (answersOf (s ∷ [])) in (
       w .size,
@@ -78,6 +81,12 @@ loop-again c =
           ∙ rw (← next-step (l .left) (chipOf (l .image)) log (l .at) (omega arith) (omega arith)) (l .inv .4)),
       w .spare ∙ l .inv .5,
       rw (w .after) (sym (next-chip (l .left) (chipOf (l .image)) log (l .at) (omega arith) (omega arith)) ∙ l .inv .6),
+      (λ h.
+          let here = l .inv .7 h in
+          let next = next-step (l .left) (chipOf (l .image)) log (l .at) (omega arith) (omega arith) in
+          let first = first-refused s rest (rw next at (here .1)) in
+          let told = c .before .before .step-in-place .ensures .0 .image (l .inv .0) ∙ ap (λ (x : List ℕ). outcome (chipOf (l .image)) x) took in
+          (c .before .before .step-in-place .ensures .1 .1 (λ z. first .0 (sym (ap (λ (o : Outcome). o .refusal) told) ∙ z)) ∙ here .0, rw (w .after) (first .1))),
     )
 
 same-length : tie.Need-same-length Inv-loop μ-loop
@@ -91,7 +100,7 @@ unfolding stepsOf answersOf lastChip
 returns c =
     let l = c .before .loop in
     let none : l .left ≡ 0 = omega arith in
-    (rw none at (l .inv .4), record { packed = record { size = l .inv .0; chip = rw none at (l .inv .6) }; spare = l .inv .5 })
+    (rw none at (l .inv .4), (record { packed = record { size = l .inv .0; chip = rw none at (l .inv .6) }; spare = l .inv .5 }, λ h. l .inv .7 h .0))
 
 pub run-records-spec : {M : Type 1} → statement M
 run-records-spec =

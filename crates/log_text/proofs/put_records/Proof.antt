@@ -1,26 +1,28 @@
-use mathlib.Core.Path.{_≡_, refl, sym, _∙_}
+-- The loop's invariant: whatever stores the lines of the records left after those that stand there has stored the lines of all. The measure is the records left. Assumes nothing.
+use mathlib.Core.Path.{_≡_, refl, ap, sym, _∙_}
 use mathlib.Core.List.{List}
-use Prim.Native.Nat.{ℕ, _+_, _*_, _≤_}
+use Prim.Native.Nat.{ℕ, _+_, _*_, _-_, _≤_}
 use native.Mathlib.Omega.{arith}
-use lib.ListN.{length, drop}
+use lib.ListN.{length, drop, length-drop}
+use lib.Seq.{length-take-le}
+use Rattle.records.specs.declared.Outcome.{Outcome}
 use Rattle.image.specs.Image.{imageSize}
+use Rattle.mcp2515.specs.declared.Chip.{Chip}
 use Rattle.mcp2515.specs.declared.Stepped.{Stepped}
 use Rattle.mcp2515.specs.Step.{stepOf}
 use Rattle.mcp2515.specs.ChipImage.{chipOf}
-use Rattle.mcp2515.proofs.Images.{stepped-back}
 use Rattle.bus_log.specs.Log.{recordSize, recordAt, stepsOf, lastChip}
 use Rattle.log_text.specs.Line.{linesOf}
 use Rattle.log_text.specs.Storing.{Stored}
 use Rattle.log_text.specs.Stretch.{lineRoom}
 use Rattle.log_text.proofs.Stores.{then-stored, none-stored}
 use Rattle.log_text.proofs.Lines.{next-line, next-chip}
--- The loop's invariant: whatever stores the lines of the records left after those that stand there has stored the lines of all. The measure is the records left. Assumes nothing.
 use borrow.Author.Needs.{needs}
 use Rattle.log_text.proofs.put_records.Statement.{statement}
 use Rattle.log_text.proofs.put_records.Tie as tie
 
 abbrev Inv-loop : tie.InvT-loop
-Inv-loop number part count out₀ image₀ left₀ at₀ len₀ n₀ out image left at len n =
+Inv-loop image₀ number part count out₀ left₀ at₀ len₀ n₀ image out left at len n =
     (n + left ≡ number + count)
     × (at + left * recordSize ≤ length part)
     × (len + left * lineRoom ≤ count * lineRoom)
@@ -30,24 +32,28 @@ Inv-loop number part count out₀ image₀ left₀ at₀ len₀ n₀ out image l
     → Stored out len (linesOf n (stepsOf left (chipOf image) (drop at part))) after end
     → Stored out₀ 0 (linesOf number (stepsOf count (chipOf image₀) part)) after end)
     × (lastChip (chipOf image) (stepsOf left (chipOf image) (drop at part)) ≡ lastChip (chipOf image₀) (stepsOf count (chipOf image₀) part))
+    × (drop 146 image ≡ drop 146 image₀)
 
 abbrev μ-loop : tie.MeasureT-loop
-μ-loop number part count out₀ image₀ left₀ at₀ len₀ n₀ out image left at len n = left
-
-pack-requires : tie.Need-pack-requires Inv-loop μ-loop
-pack-requires c κs = search needs
+μ-loop image₀ number part count out₀ left₀ at₀ len₀ n₀ image out left at len n = left
 
 loop-holds : tie.Need-loop-holds Inv-loop μ-loop
-loop-holds c = (refl, omega arith, omega arith, refl, c .pack .ensures .size, (λ after end s. s), refl)
+loop-holds c = (refl, omega arith, omega arith, refl, c .before .before .before .pre .0, (λ after end s. s), refl, refl)
 
-slice-aggregate-step-in-place : tie.Need-slice-aggregate-step-in-place Inv-loop μ-loop
-slice-aggregate-step-in-place c = sym (c .before .before .loop .inv .4)
+add-end : tie.Need-add-end Inv-loop μ-loop
+add-end c = search needs
 
-fields-at-requires : tie.Need-fields-at-requires Inv-loop μ-loop
-fields-at-requires c κs = search needs
+sub-run-record : tie.Need-sub-run-record Inv-loop μ-loop
+sub-run-record c = search needs
 
-step-in-place-requires : tie.Need-step-in-place-requires Inv-loop μ-loop
-step-in-place-requires c κs = search needs
+part-run-record-start : tie.Need-part-run-record-start Inv-loop μ-loop
+part-run-record-start c = search needs
+
+part-run-record-end : tie.Need-part-run-record-end Inv-loop μ-loop
+part-run-record-end c = search needs
+
+run-record-requires : tie.Need-run-record-requires Inv-loop μ-loop
+run-record-requires c κs = search needs
 
 cast-put-line : tie.Need-cast-put-line Inv-loop μ-loop
 cast-put-line c = search needs
@@ -61,9 +67,6 @@ put-line-requires c κs = search needs
 add-n : tie.Need-add-n Inv-loop μ-loop
 add-n c = search needs
 
-add-at : tie.Need-add-at Inv-loop μ-loop
-add-at c = search needs
-
 sub-left : tie.Need-sub-left Inv-loop μ-loop
 sub-left c = search needs
 
@@ -72,14 +75,21 @@ loop-less c = search needs
 
 loop-again : tie.Need-loop-again Inv-loop μ-loop
 loop-again c =
-    let l = c .before .before .before .before .before .before .before .before .before .loop in
-    let part = c .before .before .before .before .before .before .before .before .before .before .before .before .before .args .part .now in
-    let o = c .before .before .before .before .before .step-in-place .result in
+    let l = c .before .before .before .before .before .before .before .before .before .before .loop in
+    let part = c .before .before .before .before .before .before .before .before .before .before .before .before .before .before .args .part .now in
+    let run = c .before .before .before .before .before .before .run-record in
+    let o = run .result in
     let m = l .image in
-    let after = c .before .before .before .before .before .step-in-place .last .0 in
-    let moved = c .before .before .before .before .before .step-in-place .ensures .1 .0 in
+    let after = run .last .0 in
+    let r = recordAt part (l .at) in
+    let whole : l .at + recordSize - l .at ≡ recordSize = omega arith in
+    let size : length r ≡ recordSize = length-take-le recordSize (drop (l .at) part) (rw length-drop (omega arith)) in
+    let ran = rw whole at (run .ensures) in
+    let moved = ran .moved (l .inv .4) size in
     let s : Stepped = record { chip = chipOf after; refusal = o .refusal; answer = o .answer } in
-    let stepped : s ≡ stepOf (chipOf m) (recordAt part (l .at)) = stepped-back m after (chipOf m) (chipOf after) (c .before .before .before .before .before .before .fields-at .result) (recordAt part (l .at)) o _ (record { size = l .inv .4; chip = refl }) (c .before .before .before .before .before .before .fields-at .ensures) (c .before .before .before .before .before .step-in-place .ensures .0) moved refl in
+    let stepped : s ≡ stepOf (chipOf m) r =
+    ap (λ (k : Chip). record { chip = k; refusal = o .refusal; answer = o .answer }) (moved .packed .chip)
+    ∙ ap (λ (y : Outcome). record { chip = stepOf (chipOf m) r .chip; refusal = y .refusal; answer = y .answer }) (ran .told (l .inv .4) size) in
     let line = c .before .before .put-line .ensures in
     let lines = next-line (l .left) (l .n) (chipOf m) part (l .at) s (omega arith) (omega arith) stepped in
     let chip = next-chip (l .left) (l .n) (chipOf m) part (l .at) s (omega arith) (omega arith) stepped in (
@@ -87,30 +97,24 @@ loop-again c =
       omega arith,
       omega (arith, line .1),
       omega arith,
-      moved .image (l .inv .4) .packed .size,
+      moved .packed .size,
       (λ to end rest. l .inv .5 to end (rw lines (then-stored (line .0) rest))),
       sym chip ∙ l .inv .6,
+      moved .spare ∙ l .inv .7,
     )
 
-unpack-requires : tie.Need-unpack-requires Inv-loop μ-loop
-unpack-requires c κs = search needs
-
 same-length : tie.Need-same-length Inv-loop μ-loop
-same-length c = search needs
+same-length c = c .before .loop .inv .4 ∙ sym (c .before .before .before .before .before .pre .0)
+
+same-length-2 : tie.Need-same-length-2 Inv-loop μ-loop
+same-length-2 c = c .before .loop .inv .3
 
 returns : tie.Need-returns Inv-loop μ-loop
 unfolding stepsOf linesOf lastChip
 returns c =
-    let l = c .before .before .loop in
+    let l = c .before .loop in
     let none : l .left ≡ 0 = omega arith in
-    let first = c .before .before .before .pack .ensures .chip in
-    record {
-      text = rw first at (l .inv .5 (l .out) (l .len) (rw none (none-stored (l .out) (l .len))));
-      most = omega arith;
-      refusal = refl;
-      number = omega arith;
-      chip = c .unpack .ensures ∙ rw (none, first) at (l .inv .6);
-    }
+    (record { text = l .inv .5 (l .out) (l .len) (rw none (none-stored (l .out) (l .len))); most = omega arith }, record { packed = record { size = l .inv .4; chip = rw none at (l .inv .6) }; spare = l .inv .7 })
 
 pub put-records-spec : {M : Type 1} → statement M
 put-records-spec =
@@ -118,19 +122,19 @@ put-records-spec =
     (tie.spec
     Inv-loop
     μ-loop
-    pack-requires
     loop-holds
-    slice-aggregate-step-in-place
-    fields-at-requires
-    step-in-place-requires
+    add-end
+    sub-run-record
+    part-run-record-start
+    part-run-record-end
+    run-record-requires
     cast-put-line
     add-put-line
     put-line-requires
     add-n
-    add-at
     sub-left
     loop-less
     loop-again
-    unpack-requires
     same-length
+    same-length-2
     returns)

@@ -1,24 +1,33 @@
--- Too little room is refused; else the records' lines are stored, and a last line where the run ends. Assumes nothing.
+-- Too little room is refused; else the chip is packed, its text stored, and the chip taken out again. Assumes nothing.
 use mathlib.Core.Path.{_≡_, sym, _∙_}
-use native.Mathlib.Nat.{pos-of-ne-zero}
+use Prim.Native.Nat.{_+_}
 use native.Mathlib.Omega.{arith}
 use borrow.Author.Needs.{needs}
 use lib.ListN.{length}
-use Rattle.log_text.specs.Stretch.{runIn}
-use Rattle.log_text.proofs.Renderings.{no-room, goes-on, ends}
+use Rattle.log_text.specs.Stretch.{runIn, shortRoom}
+use Rattle.log_text.proofs.Renderings.{enough, too-short, no-room, rendering}
 use Rattle.log_text.proofs.render_stretch.Statement.{statement}
 use Rattle.log_text.proofs.render_stretch.Tie as tie
 
-add-if1 : tie.Need-add-if1
-add-if1 c = search needs
-
-mul-if1 : tie.Need-mul-if1
-mul-if1 c = search needs
+room-refusal-requires : tie.Need-room-refusal-requires
+room-refusal-requires c κs = search needs
 
 returns : tie.Need-returns
 returns c =
-    let a = c .before .before .before .args in
-    no-room (a .chip) (a .number) (a .part .now) (a .out .now) (c .if1 .taken)
+    let a = c .before .before .before .before .args in
+    no-room (a .chip) (a .number) (a .part .now) (a .out .now) (too-short (length (a .part .now)) (length (a .out .now)) (rw (c .before .room-refusal .ensures) at (c .if1 .taken)))
+
+pack-requires : tie.Need-pack-requires
+pack-requires c κs = search needs
+
+slice-aggregate-put-stretch : tie.Need-slice-aggregate-put-stretch
+slice-aggregate-put-stretch c = search needs
+
+put-stretch-requires : tie.Need-put-stretch-requires
+put-stretch-requires c κs =
+    let a = c .before .before .before .before .before .before .before .args in
+    let none : shortRoom (length (a .part .now)) (length (a .out .now)) ≡ 0 = sym (c .before .before .before .before .room-refusal .ensures) ∙ omega arith in
+    (c .before .before .pack .ensures .size, enough (length (a .part .now)) (length (a .out .now)) none)
 
 records-left-requires : tie.Need-records-left-requires
 records-left-requires c κs = search needs
@@ -26,59 +35,44 @@ records-left-requires c κs = search needs
 least-requires : tie.Need-least-requires
 least-requires c κs = search needs
 
-put-records-requires : tie.Need-put-records-requires
-put-records-requires c κs = search needs
-
 end-refusal-requires : tie.Need-end-refusal-requires
 end-refusal-requires c κs = search needs
+
+cast-t18 : tie.Need-cast-t18
+cast-t18 c = search needs
+
+add-t19 : tie.Need-add-t19
+add-t19 c = search needs
+
+unpack-requires : tie.Need-unpack-requires
+unpack-requires c κs = search needs
 
 same-length : tie.Need-same-length
 same-length c = search needs
 
 returns-2 : tie.Need-returns-2
 returns-2 c =
-    let a = c .before .before .before .before .before .before .before .before .before .before .before .args in
-    let count = c .before .before .before .before .before .before .least in
-    let all : count .result ≡ runIn (a .number) (length (a .part .now)) = omega arith in
-    goes-on (a .chip) (a .number) (a .part .now) (a .out .now) _ (c .before .before .before .before .put-records .result) (count .result) all (c .before .before .before .before .put-records .ensures) (c .before .before .before .before .before .before .before .before .if1 .left) (sym (c .before .end-refusal .ensures) ∙ c .if2 .taken)
-
-cast-put-line : tie.Need-cast-put-line
-cast-put-line c = search needs
-
-add-put-line : tie.Need-add-put-line
-add-put-line c = search needs
-
-put-line-requires : tie.Need-put-line-requires
-put-line-requires c κs = omega (arith, c .before .before .before .before .before .before .put-records .ensures .most)
-
-same-length-2 : tie.Need-same-length-2
-same-length-2 c = search needs
-
-returns-3 : tie.Need-returns-3
-returns-3 c =
-    let a = c .before .before .before .before .before .before .before .before .before .before .before .before .before .before .before .before .args in
-    let count = c .before .before .before .before .before .before .before .before .before .before .before .least in
-    let all : count .result ≡ runIn (a .number) (length (a .part .now)) = omega arith in
-    let s = c .before .before .before .before .before .before .before .before .before .put-records in
-    let r = c .before .before .before .before .before .before .end-refusal in
-    let line = c .before .before .put-line in
-    ends (a .chip) (a .number) (a .part .now) (a .out .now) _ (s .result) (count .result) all (s .ensures) (c .before .before .before .before .before .before .before .before .before .before .before .before .before .if1 .left) _ (line .result) (r .result) (r .ensures) (pos-of-ne-zero (c .before .before .before .before .before .if2 .left)) (line .ensures .0) (line .ensures .1)
+    let a = c .before .before .before .before .before .before .before .before .before .before .before .before .before .before .before .args in
+    let none : shortRoom (length (a .part .now)) (length (a .out .now)) ≡ 0 = sym (c .before .before .before .before .before .before .before .before .before .before .before .before .room-refusal .ensures) ∙ omega arith in
+    let chip = c .before .before .before .before .before .before .before .before .before .before .pack .ensures .chip in
+    let put = c .before .before .before .before .before .before .before .put-stretch in
+    let number : a .number + c .before .before .least .result ≡ a .number + runIn (a .number) (length (a .part .now)) = omega arith in
+    rendering (a .chip) (a .number) (a .part .now) (a .out .now) _ _ (enough (length (a .part .now)) (length (a .out .now)) none) (rw chip at (put .ensures .0)) (c .before .end-refusal .ensures) number (c .unpack .ensures ∙ rw chip at (put .ensures .1 .packed .chip))
 
 pub render-stretch-spec : {M : Type 1} → statement M
 render-stretch-spec =
     tie.close
     (tie.spec
-    add-if1
-    mul-if1
+    room-refusal-requires
     returns
+    pack-requires
+    slice-aggregate-put-stretch
+    put-stretch-requires
     records-left-requires
     least-requires
-    put-records-requires
     end-refusal-requires
+    cast-t18
+    add-t19
+    unpack-requires
     same-length
-    returns-2
-    cast-put-line
-    add-put-line
-    put-line-requires
-    same-length-2
-    returns-3)
+    returns-2)
