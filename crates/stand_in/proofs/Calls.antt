@@ -8,20 +8,17 @@ use borrow.Author.Tests.{eqb-true, ltb-false}
 use lib.Dec.{eqb, ltb}
 use lib.IntN.{pos, negℤ}
 use lib.ListN.{length, set, drop}
-use lib.Seq.{take-all}
 use mir.Syntax.{w64}
 use mir.Val.{toZ, boolByte}
 use mir.Facts.{toZ-pos}
 use Rattle.image.specs.Image.{isChip, Answered}
 use Rattle.image.proofs.Laws.{chip-size}
-use Rattle.mcp2515.specs.declared.Chip.{Chip}
-use Rattle.mcp2515.specs.Step.{stepOf}
 use Rattle.mcp2515.specs.ChipImage.{chipOf}
-use Rattle.bus_log.specs.Log.{recordSize, recordAt, recordsIn, stepsOf, lastChip, answersOf, lengthRefusal, roomRefusal}
+use Rattle.bus_log.specs.Log.{recordSize, lastChip, answersOf, lengthRefusal, roomRefusal}
 use Rattle.bus_log.specs.Run.{answerRoom, runRefusal}
 use Rattle.bus_log.specs.Held.{chipRefusal, heldRefusal}
 use Rattle.bus_log.specs.From.{fromAnswers}
-use Rattle.bus_log.proofs.Steps.{record-within}
+use Rattle.bus_log.proofs.Steps.{one-step}
 use Rattle.stand_in.specs.StandIn.{recordRefusal, stepAnswer, StepIsRun, heldAnswer, flagged}
 
 -- ---- the step
@@ -36,19 +33,11 @@ whole-sizes size room e =
     let t = no-test (eqb size recordSize) (ltb room (answerRoom 1)) e in
     (eqb-true size recordSize (t .0), ltb-false room (answerRoom 1) (t .1))
 
-pub whole-record : (r : List ℕ) → length r ≡ recordSize → recordAt r 0 ≡ r
-whole-record r e = record-within r 0 (omega arith) ∙ take-all recordSize r (omega arith)
-
 -- refusal and answer are stored in the first two bytes
 pub first-two : (xs : List ℕ) (a b : ℕ) → answerRoom 1 ≤ length xs → set (set xs 0 a) 1 b ≡ a ∷ b ∷ drop (answerRoom 1) xs
 first-two [] a b h = absurd (omega arith)
 first-two (x ∷ []) a b h = absurd (omega arith)
 first-two (x ∷ y ∷ xs) a b h = refl
-
--- a log that is one record
-one-step : (c : Chip) (r : List ℕ) → length r ≡ recordSize → stepsOf (recordsIn (length r)) c r ≡ stepOf c r ∷ []
-unfolding stepsOf
-one-step c r e = rw e (ap (λ (l : List ℕ). stepOf c l ∷ []) (take-all recordSize r (omega arith)))
 
 one-refusal : (size room : ℕ) → size ≡ recordSize → recordRefusal size room ≡ runRefusal size room
 unfolding runRefusal
@@ -59,7 +48,7 @@ unfolding stepAnswer fromAnswers answersOf lastChip
 step-is-run m r answer e =
     let same = one-refusal (length r) (length answer) e in
     let one = one-step (chipOf m) r e in
-    (rw same, rw (same, one, e), rw one)
+    (rw same, rw (same, e, one), rw (e, one))
 
 -- ---- what a chip answers
 pub held-value : (m : List ℕ) {x v o : ℕ} → isChip m ≡ true → x < 2 ^ 63 → Answered m x v o → toZ w64 x ≡ heldAnswer m v

@@ -1,13 +1,16 @@
 // The calls of a C program that holds a chip as bytes of its own. The archive of this crate has the calls
-// marked here and no others, so the runs of bus_log stand here once more.
+// marked here and no others, so the runs of bus_log and the text of log_text stand here once more.
 ghost use mathlib.Core.Path.{_≡_};
 ghost use Prim.Native.Nat.{_≤_};
 ghost use lib.ListN.{length};
 ghost use lib.Seq.{sets};
+ghost use lib.IntN.{pos};
 ghost use Rattle.registers.specs.Registers.{holds, reads, intIsLow};
 ghost use Rattle.mcp2515.specs.ChipImage.{chipOf};
 ghost use Rattle.bus_log.specs.Run.{runResult, runAnswers};
 ghost use Rattle.bus_log.specs.From.{RunningFrom};
+ghost use Rattle.log_text.specs.Stretch.{stretchRefusal};
+ghost use Rattle.log_text.specs.Text.{TextHeld};
 ghost use Rattle.stand_in.specs.StandIn.{
   powerResult,
   powerBytes,
@@ -79,7 +82,7 @@ pub extern "C" fn mcp2515_step<'a>(
     if refusal > 0 {
         return bus_log::minus(refusal);
     }
-    let told = mcp2515::step_in_place(chip, bus_log::fields_at(record, 0));
+    let told = bus_log::run_record(chip, record);
     answer[0] = told.refusal;
     answer[1] = told.answer;
     ANSWER_SIZE as i64
@@ -105,6 +108,28 @@ pub extern "C" fn mcp2515_run_log(log: &[u8], answers: &mut [u8]) -> i64
     ensures buffer { λ _. ⌜ now (answers .exit) ≡ runAnswers (now (log .entry)) (now (answers .entry)) ⌝ }
 {
     bus_log::mcp2515_run_log(log, answers)
+}
+
+// The text of a part of a log, after number records and from the chip that is lent, which is left as the
+// part leaves it: returns the bytes of text, or changes nothing and returns minus the refusal.
+#[no_mangle]
+pub extern "C" fn mcp2515_render<'a>(
+    chip: &'a mut [u8],
+    number: u32,
+    part: &'a [u8],
+    text: &'a mut [u8],
+) -> i64
+    ensures { λ r. ⌜ TextHeld (now (chip .entry)) number (now (part .entry)) (now (text .entry)) (now (chip .exit)) (now (text .exit)) r ⌝ }
+{
+    log_text::render_held(chip, number, part, text)
+}
+
+// The refusal that ends a replay in such a part, or 0.
+#[no_mangle]
+pub extern "C" fn mcp2515_part_refusal(number: u32, size: usize) -> i64
+    ensures { λ r. ⌜ r ≡ pos (stretchRefusal number size) ⌝ }
+{
+    log_text::end_refusal(number, size) as i64
 }
 
 // What an address holds.

@@ -1,6 +1,5 @@
 -- Refused, the call answers minus the refusal; else the record is a step of the chip where it lies. Assumes nothing.
 use mathlib.Core.Path.{_≡_, refl, ap, sym, _∙_}
-use mathlib.Core.List.{List}
 use Prim.Native.Nat.{ℕ}
 use native.Mathlib.Omega.{arith}
 use borrow.Author.Needs.{needs}
@@ -9,14 +8,11 @@ use lib.ListN.{length, set, length-set}
 use mir.Syntax.{w64}
 use mir.Facts.{toZ-pos, toZ-ofZ}
 use Rattle.records.specs.declared.Outcome.{Outcome}
-use Rattle.records.specs.Records.{recordOf}
 use Rattle.image.proofs.Laws.{chip-size}
-use Rattle.mcp2515.specs.Step.{outcome}
-use Rattle.mcp2515.specs.ChipImage.{chipOf}
 use Rattle.bus_log.specs.Held.{heldRefusal}
 use Rattle.bus_log.proofs.Helds.{held-both, held-moved, held-kept}
 use Rattle.stand_in.specs.StandIn.{recordRefusal, stepRefusal, stepResult, stepAnswer}
-use Rattle.stand_in.proofs.Calls.{whole-sizes, whole-record, first-two, step-is-run}
+use Rattle.stand_in.proofs.Calls.{whole-sizes, first-two, step-is-run}
 use Rattle.stand_in.proofs.mcp2515_step.Statement.{statement}
 use Rattle.stand_in.proofs.mcp2515_step.Tie as tie
 
@@ -39,7 +35,7 @@ returns c =
     let r = c .before .before .held-refusal .result in
     let same : r ≡ stepRefusal (a .chip .now) (a .«record» .now) (a .answer .now) =
     c .before .before .held-refusal .ensures ∙ ap (λ (x : ℕ). heldRefusal (a .chip .now) x) (c .before .before .before .record-refusal .ensures) in
-    let t = lt-ltb 0 r (c .before .if1 .taken) in
+    let t = lt-ltb 0 r (omega (arith, c .before .if1 .taken)) in
     record {
       result = toZ-ofZ {w = w64} (record { sfits = c .minus .ok }) ∙ c .minus .ensures ∙ rw (← same, t);
       buffer = rw (← same, t);
@@ -48,26 +44,23 @@ returns c =
       run = step-is-run;
     }
 
-fields-at-requires : tie.Need-fields-at-requires
-fields-at-requires c κs = search needs
-
-step-in-place-requires : tie.Need-step-in-place-requires
-step-in-place-requires c κs = search needs
+run-record-requires : tie.Need-run-record-requires
+run-record-requires c κs = search needs
 
 slice-write-answer : tie.Need-slice-write-answer
 slice-write-answer c =
-    let a = c .before .before .before .before .before .before .before .before .before .before .before .before .args in
+    let a = c .before .before .before .before .before .before .before .before .before .before .before .args in
     let none : stepRefusal (a .chip .now) (a .«record» .now) (a .answer .now) ≡ 0 =
-    sym (c .before .before .before .before .before .before .held-refusal .ensures ∙ ap (λ (x : ℕ). heldRefusal (a .chip .now) x) (c .before .before .before .before .before .before .before .record-refusal .ensures)) ∙ omega arith in
+    sym (c .before .before .before .before .before .held-refusal .ensures ∙ ap (λ (x : ℕ). heldRefusal (a .chip .now) x) (c .before .before .before .before .before .before .record-refusal .ensures)) ∙ omega arith in
     let both = held-both (a .chip .now) (recordRefusal (length (a .«record» .now)) (length (a .answer .now))) none in
     let sizes = whole-sizes (length (a .«record» .now)) (length (a .answer .now)) (both .1) in
     omega (arith, sizes .1)
 
 slice-write-answer-2 : tie.Need-slice-write-answer-2
 slice-write-answer-2 c =
-    let a = c .before .before .before .before .before .before .before .before .before .before .before .before .args in
+    let a = c .before .before .before .before .before .before .before .before .before .before .before .args in
     let none : stepRefusal (a .chip .now) (a .«record» .now) (a .answer .now) ≡ 0 =
-    sym (c .before .before .before .before .before .before .held-refusal .ensures ∙ ap (λ (x : ℕ). heldRefusal (a .chip .now) x) (c .before .before .before .before .before .before .before .record-refusal .ensures)) ∙ omega arith in
+    sym (c .before .before .before .before .before .held-refusal .ensures ∙ ap (λ (x : ℕ). heldRefusal (a .chip .now) x) (c .before .before .before .before .before .before .record-refusal .ensures)) ∙ omega arith in
     let both = held-both (a .chip .now) (recordRefusal (length (a .«record» .now)) (length (a .answer .now))) none in
     let sizes = whole-sizes (length (a .«record» .now)) (length (a .answer .now)) (both .1) in
     simp length-set (omega (arith, sizes .1))
@@ -84,21 +77,19 @@ same-length-3 c = search needs
 returns-2 : tie.Need-returns-2
 unfolding stepResult stepAnswer
 returns-2 c =
-    let a = c .before .before .before .before .before .before .before .before .before .before .before .before .args in
+    let a = c .before .before .before .before .before .before .before .before .before .before .before .args in
     let none : stepRefusal (a .chip .now) (a .«record» .now) (a .answer .now) ≡ 0 =
-    sym (c .before .before .before .before .before .before .held-refusal .ensures ∙ ap (λ (x : ℕ). heldRefusal (a .chip .now) x) (c .before .before .before .before .before .before .before .record-refusal .ensures)) ∙ omega arith in
+    sym (c .before .before .before .before .before .held-refusal .ensures ∙ ap (λ (x : ℕ). heldRefusal (a .chip .now) x) (c .before .before .before .before .before .before .record-refusal .ensures)) ∙ omega arith in
     let both = held-both (a .chip .now) (recordRefusal (length (a .«record» .now)) (length (a .answer .now))) none in
     let sizes = whole-sizes (length (a .«record» .now)) (length (a .answer .now)) (both .1) in
     let size = chip-size (a .chip .now) (both .0) in
-    let step = c .before .before .step-in-place in
-    let took : recordOf (c .before .before .before .fields-at .result) ≡ a .«record» .now = c .before .before .before .fields-at .ensures ∙ whole-record (a .«record» .now) (sizes .0) in
-    let told : step .result ≡ outcome (chipOf (a .chip .now)) (a .«record» .now) =
-    step .ensures .0 .image size ∙ ap (λ (l : List ℕ). outcome (chipOf (a .chip .now)) l) took in
+    let ran = c .before .before .run-record .ensures in
+    let told = ran .told size (sizes .0) in
     record {
       result = rw none (toZ-pos w64 (omega arith));
       buffer = rw none (ap (λ (o : Outcome). set (set (a .answer .now) 0 (o .refusal)) 1 (o .answer)) told ∙ first-two (a .answer .now) _ _ (sizes .1));
-      chip = held-moved (both .0) none (rw took at (step .ensures .1 .0 .image size));
-      kept = λ h. step .ensures .1 .1 (λ z. h (sym (ap (λ (o : Outcome). o .refusal) told) ∙ z));
+      chip = held-moved (both .0) none (ran .moved size (sizes .0));
+      kept = λ h. ran .kept (λ z. h (sym (ap (λ (o : Outcome). o .refusal) told) ∙ z));
       run = step-is-run;
     }
 
@@ -111,8 +102,7 @@ mcp2515-step-spec =
     minus-requires
     same-length
     returns
-    fields-at-requires
-    step-in-place-requires
+    run-record-requires
     slice-write-answer
     slice-write-answer-2
     cast-result
