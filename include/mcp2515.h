@@ -167,7 +167,7 @@ int64_t mcp2515_int_is_low(const uint8_t *chip, size_t chip_len);
  *
  *   -21  no chip
  *   -7   text_len is below (part_len / 16 + 1) * 19
- *   otherwise the bytes of text written; the bytes past them may have changed
+ *   otherwise the bytes of text written; bytes past them stay
  */
 int64_t mcp2515_render(uint8_t *chip, size_t chip_len, uint32_t number, const uint8_t *part,
                        size_t part_len, uint8_t *text, size_t text_len);
