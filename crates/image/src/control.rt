@@ -182,6 +182,18 @@ pub fn settle(image: &mut [u8])
     }
 }
 
+// The same for a caller that is run often: this test is compiled into the caller, and the act, which is rare, stays apart.
+pub fn settle_if_asked(image: &mut [u8])
+    ensures { λ _. ⌜ Acted (now (image .entry)) (now (image .exit)) (withControl (coreOf (now (image .entry))) (settled (controlOf (now (image .entry))))) ⌝ }
+{
+    if image.len() != SIZE {
+        return;
+    }
+    if image[REQUEST] < NO_REQUEST {
+        settle(image);
+    }
+}
+
 // The bytes of 00h to 7Fh are 0.
 fn clear(image: &mut [u8])
     requires { ⌜ length (now image) ≡ imageSize ⌝ }

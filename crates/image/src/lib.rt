@@ -13,6 +13,7 @@ pub use control::power_on;
 pub use control::put_control;
 pub use control::reset;
 pub use control::settle;
+pub use control::settle_if_asked;
 
 pub const SIZE: usize = 152;
 

@@ -224,7 +224,7 @@ pub fn exchange(image: &mut [u8], byte: u8) -> u8
         return 0;
     }
     let reply = exchange_open(image, byte);
-    image::settle(image);
+    image::settle_if_asked(image);
     reply
 }
 
@@ -236,7 +236,7 @@ pub fn open(image: &mut [u8])
         return;
     }
     image[SELECT] = FIRST;
-    image::settle(image);
+    image::settle_if_asked(image);
 }
 
 fn clear(image: &mut [u8], flag: u8)
@@ -268,5 +268,5 @@ pub fn close(image: &mut [u8])
     }
     end_reading(image);
     image[SELECT] = RAISED;
-    image::settle(image);
+    image::settle_if_asked(image);
 }

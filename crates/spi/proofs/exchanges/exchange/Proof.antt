@@ -21,14 +21,14 @@ returns-2 c = record { reply = λ e i p. not-both (rw (c .if2 .taken) at p); ima
 exchange-open-requires : tie.Need-exchange-open-requires
 exchange-open-requires c κs = search needs
 
-settle-requires : tie.Need-settle-requires
-settle-requires c κs = search needs
+settle-if-asked-requires : tie.Need-settle-if-asked-requires
+settle-if-asked-requires c κs = search needs
 
 same-length : tie.Need-same-length
 same-length c = search needs
 
 returns-3 : tie.Need-returns-3
-returns-3 c = let m = c .before .before .before .before .before .before .before .before .before .before .before .before .args .image .now in let b = c .before .before .before .before .before .before .before .before .before .before .before .before .args .byte in let q = open-of m (c .before .before .before .before .before .before .before .before .if2 .left) in record { reply = λ e i p. subst (λ (j : Instruction). c .before .before .before .before .before .before .exchange-open .result ≡ replyTo (exchangeAct j b) (coreOf m)) (same-open (sym q ∙ p)) (c .before .before .before .before .before .before .exchange-open .ensures .0); image = λ e i p. subst (λ (j : Instruction). Turned m (c .before .before .settle .last .0) (acted (exchangeAct j b) (coreOf m)) (Lowered (exchangeNext j b))) (same-open (sym q ∙ p)) (rw (exchange-acted (openOf m) b (coreOf m)) (then-settled (c .before .before .before .before .before .before .exchange-open .ensures .1) (c .before .before .settle .ensures))); raised = λ p. not-both (sym p ∙ q); other = λ h. absurd (h (c .before .before .before .before .before .before .before .before .before .before .if1 .left)) }
+returns-3 c = let m = c .before .before .before .before .before .before .before .before .before .before .before .before .args .image .now in let b = c .before .before .before .before .before .before .before .before .before .before .before .before .args .byte in let q = open-of m (c .before .before .before .before .before .before .before .before .if2 .left) in record { reply = λ e i p. subst (λ (j : Instruction). c .before .before .before .before .before .before .exchange-open .result ≡ replyTo (exchangeAct j b) (coreOf m)) (same-open (sym q ∙ p)) (c .before .before .before .before .before .before .exchange-open .ensures .0); image = λ e i p. subst (λ (j : Instruction). Turned m (c .before .before .settle-if-asked .last .0) (acted (exchangeAct j b) (coreOf m)) (Lowered (exchangeNext j b))) (same-open (sym q ∙ p)) (rw (exchange-acted (openOf m) b (coreOf m)) (then-settled (c .before .before .before .before .before .before .exchange-open .ensures .1) (c .before .before .settle-if-asked .ensures))); raised = λ p. not-both (sym p ∙ q); other = λ h. absurd (h (c .before .before .before .before .before .before .before .before .before .before .if1 .left)) }
 
 pub exchange-spec : {M : Type 1} → statement M
 exchange-spec =
@@ -38,6 +38,6 @@ exchange-spec =
     slice-read-if2
     returns-2
     exchange-open-requires
-    settle-requires
+    settle-if-asked-requires
     same-length
     returns-3)
