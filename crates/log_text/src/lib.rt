@@ -58,11 +58,22 @@ fn put_decimal(out: &mut [u8], at: usize, n: u64) -> usize
     put_byte(out, last, b'0' + (n % 10) as u8)
 }
 
+// A number of one digit, as most refusals and answers are, takes no call.
+fn put_number(out: &mut [u8], at: usize, n: u64) -> usize
+    requires { ⌜ at + length (decimalOf n) ≤ length (now out) ⌝ }
+    ensures { λ r. ⌜ Stored (now (out .entry)) at (decimalOf n) (now (out .exit)) r ⌝ }
+{
+    if n < 10 {
+        return put_byte(out, at, b'0' + n as u8);
+    }
+    put_decimal(out, at, n)
+}
+
 fn put_field(out: &mut [u8], at: usize, n: u64, end: u8) -> usize
     requires { ⌜ at + length (decimalOf n) < length (now out) ⌝ }
     ensures { λ r. ⌜ Stored (now (out .entry)) at (fieldOf n end) (now (out .exit)) r ⌝ }
 {
-    let last = put_decimal(out, at, n);
+    let last = put_number(out, at, n);
     put_byte(out, last, end)
 }
 
