@@ -15,7 +15,7 @@ use Rattle.bus_log.proofs.Steps.{length-steps}
 use Rattle.log_text.specs.declared.Rendered.{Rendered}
 use Rattle.log_text.specs.Line.{lineOf}
 use Rattle.log_text.specs.Stretch.{runIn, stretchRefusal, endLine, replayOf, lineRoom, stretchRoom, shortRoom, renderedOf, outputOf, Rendering}
-use Rattle.log_text.specs.Storing.{Stored, Lined, Told}
+use Rattle.log_text.specs.Storing.{Stored, Lined, Written}
 use Rattle.log_text.proofs.Stores.{then-stored}
 use Rattle.log_text.proofs.Joins.{stretches-join}
 
@@ -67,13 +67,13 @@ module _ (c : Chip) (n : ℕ) (part out mid : List ℕ) (len count : ℕ) (all :
   ran = length-steps (runIn n (length part)) c part ∙ sym all
 
   -- the run goes on after the stretch: no line more
-  pub goes-on : stretchRefusal n (length part) ≡ 0 → Told c n part out mid len
+  pub goes-on : stretchRefusal n (length part) ≡ 0 → Written c n part out mid len
   unfolding replayOf endLine
   goes-on none = record { text = rw (none, append-nil, ← all) (lines .text); most = omega (arith, lines .most) }
 
   -- the run ends in the stretch: one line more
   pub ends : (after : List ℕ) (end r : ℕ) → r ≡ stretchRefusal n (length part) → 0 < r
-      → Stored mid len (lineOf (n + count + 1) r 0) after end → end ≤ len + lineRoom → Told c n part out after end
+      → Stored mid len (lineOf (n + count + 1) r 0) after end → end ≤ len + lineRoom → Written c n part out after end
   unfolding replayOf endLine
   ends after end r same some last most =
       record {
@@ -88,7 +88,7 @@ replay-chip c n part count all = rw all
 
 -- the promise by value
 pub rendering : (c : Chip) (n : ℕ) (part out after : List ℕ) (r : Rendered) → stretchRoom (length part) ≤ length out
-    → Told c n part out after (r .len) → r .refusal ≡ stretchRefusal n (length part) → r .number ≡ n + runIn n (length part)
+    → Written c n part out after (r .len) → r .refusal ≡ stretchRefusal n (length part) → r .number ≡ n + runIn n (length part)
     → r .chip ≡ replayOf c n part .chip → Rendering c n part out after r
 unfolding replayOf
 rendering c n part out after r room told refusal number chip =

@@ -20,6 +20,6 @@ pub record Lined (c : Chip) (n count : ℕ) (part before after : List ℕ) (end 
   pub most : end ≤ count * lineRoom
 
 -- the text of a stretch was stored from the start on
-pub record Told (c : Chip) (n : ℕ) (part before after : List ℕ) (end : ℕ) : Type 0 where
+pub record Written (c : Chip) (n : ℕ) (part before after : List ℕ) (end : ℕ) : Type 0 where
   pub text : Stored before 0 (replayOf c n part .text) after end
   pub most : end ≤ stretchRoom (length part)

@@ -17,7 +17,7 @@ ghost use Rattle.log_text.specs.Stretch.{
   replayOf,
   Rendering,
 };
-ghost use Rattle.log_text.specs.Storing.{Stored, Lined, Told};
+ghost use Rattle.log_text.specs.Storing.{Stored, Lined, Written};
 ghost use Rattle.log_text.specs.Text.{TextHeld};
 use bus_log::COUNT_REFUSAL;
 use bus_log::LENGTH_REFUSAL;
@@ -157,7 +157,7 @@ fn room_refusal(part: &[u8], room: usize) -> u8
 // image. Returns the bytes of text.
 fn put_stretch<'a>(image: &'a mut [u8], number: u32, part: &'a [u8], out: &'a mut [u8]) -> usize
     requires { ⌜ (length (now image) ≡ imageSize) × (stretchRoom (length (now part)) ≤ length (now out)) ⌝ }
-    ensures { λ r. ⌜ Told (chipOf (now (image .entry))) number (now (part .entry)) (now (out .entry)) (now (out .exit)) r ⌝ }
+    ensures { λ r. ⌜ Written (chipOf (now (image .entry))) number (now (part .entry)) (now (out .entry)) (now (out .exit)) r ⌝ }
     ensures { λ _. ⌜ Moved (now (image .entry)) (now (image .exit)) (replayOf (chipOf (now (image .entry))) number (now (part .entry)) .chip) ⌝ }
 {
     let size = part.len();

@@ -19,7 +19,7 @@ use Rattle.bus_log.specs.Run.{answerRoom, runRefusal}
 use Rattle.bus_log.specs.Held.{chipRefusal, heldRefusal}
 use Rattle.bus_log.specs.From.{fromAnswers}
 use Rattle.bus_log.proofs.Steps.{one-step}
-use Rattle.stand_in.specs.StandIn.{recordRefusal, stepAnswer, StepIsRun, heldAnswer, flagged}
+use Rattle.stand_in.specs.StandIn.{recordRefusal, stepAnswer, StepIsRun, heldAnswer, zeroOrOne}
 
 -- ---- the step
 no-test : (x y : Bool) → cond x (cond y roomRefusal 0) lengthRefusal ≡ 0 → (x ≡ true) × (y ≡ false)
@@ -55,11 +55,11 @@ pub held-value : (m : List ℕ) {x v o : ℕ} → isChip m ≡ true → x < 2 ^ 
 unfolding heldAnswer heldRefusal
 held-value m is small a = toZ-pos w64 small ∙ rw is (ap pos (a .image (chip-size m is)))
 
-pub held-test : (m : List ℕ) {b t : Bool} → isChip m ≡ true → b ≡ t → toZ w64 (boolByte b) ≡ heldAnswer m (flagged t)
+pub held-test : (m : List ℕ) {b t : Bool} → isChip m ≡ true → b ≡ t → toZ w64 (boolByte b) ≡ heldAnswer m (zeroOrOne t)
 unfolding heldAnswer heldRefusal
 held-test m {b} {t} is e = rw (is, e) (go t)
   where
-    go : (x : Bool) → toZ w64 (boolByte x) ≡ pos (flagged x)
+    go : (x : Bool) → toZ w64 (boolByte x) ≡ pos (zeroOrOne x)
     go true = refl
     go false = refl
 

@@ -76,5 +76,5 @@ unfoldable pub heldAnswer : List ℕ → ℕ → ℤ
 heldAnswer m value = callResult (heldRefusal m 0) value
 
 -- a test as C has it
-abbrev pub flagged : Bool → ℕ
-flagged b = cond b 1 0
+abbrev pub zeroOrOne : Bool → ℕ
+zeroOrOne b = cond b 1 0

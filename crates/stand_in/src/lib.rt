@@ -18,7 +18,7 @@ ghost use Rattle.stand_in.specs.StandIn.{
   recordRefusal,
   StepHeld,
   heldAnswer,
-  flagged,
+  zeroOrOne,
 };
 use bus_log::ANSWER_SIZE;
 use bus_log::CHIP_REFUSAL;
@@ -157,7 +157,7 @@ pub extern "C" fn mcp2515_read(chip: &[u8], address: u8) -> i64
 // Whether the INT line is low: 1 or 0.
 #[no_mangle]
 pub extern "C" fn mcp2515_int_is_low(chip: &[u8]) -> i64
-    ensures { λ r. ⌜ r ≡ heldAnswer (now (chip .entry)) (flagged (intIsLow (chipOf (now (chip .entry)) .core .control))) ⌝ }
+    ensures { λ r. ⌜ r ≡ heldAnswer (now (chip .entry)) (zeroOrOne (intIsLow (chipOf (now (chip .entry)) .core .control))) ⌝ }
 {
     if image::is_chip(chip) {
         let control = image::control_of(chip);

@@ -1,5 +1,4 @@
 -- Each `return` by the tests that led there. Assumes nothing.
-use borrow.Author.Needs.{needs}
 use borrow.Author.Tests.{eq-eqb, ne-eqb, lt-ltb, le-ltb}
 use Rattle.stand_in.proofs.record_refusal.Statement.{statement}
 use Rattle.stand_in.proofs.record_refusal.Tie as tie
