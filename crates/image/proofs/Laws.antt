@@ -4,10 +4,10 @@ use mathlib.Core.Bool.{Bool, true, false, cond, _&&_}
 use mathlib.Core.List.{List, [], _∷_, _++_}
 use Prim.Native.Nat.{ℕ, zero, suc, _+_, _*_, _/_, _%_, _-_, _<_, _≤_}
 use native.Mathlib.Omega.{arith}
-use native.Mathlib.Nat.{add-suc}
+use native.Mathlib.Nat.{add-suc, zero-add}
 use lib.Dec.{eqb}
 use lib.ListN.{length, getD, set, take, drop, replicate, length-set, length-drop}
-use lib.Seq.{getD-set-same, getD-set-other, take-set-le, take-set-lt, drop-set-lt, drop-set-add, getD-drop, sets, length-sets, sets-eq, drop-cons, set-at, drop-drop}
+use lib.Seq.{take-take, length-take-le, length-front, drop-at, take-suc, append-snoc, getD-at, take-append-le, drop-append-le, getD-set-same, getD-set-other, take-set-le, take-set-lt, drop-set-lt, drop-set-add, getD-drop, sets, length-sets, sets-eq, drop-cons, set-at, drop-drop}
 use borrow.Author.Tests.{eqb-true, eqb-false, ne-eqb}
 use Rattle.registers.specs.declared.Mode.{Mode}
 use Rattle.registers.specs.declared.Mode.the-variants.{Normal, Sleep, Loopback, ListenOnly, Configuration}
@@ -19,7 +19,8 @@ use Rattle.registers.specs.declared.Request.the-variants.{Nothing, Wanted}
 use Rattle.registers.specs.declared.Control.{Control}
 use Rattle.registers.specs.declared.Core.{Core}
 use Rattle.registers.specs.State.{modeNumber, withControl, withConfig, withTxBytes, withRxBytes}
-use Rattle.registers.specs.Registers.{firstControl, resetCore}
+use Rattle.registers.specs.Registers.{regionOf, firstControl, isKept, keptFrom, resetCore}
+use Rattle.registers.proofs.Kept.{kept-length, kept-take, kept-drop, kept-snoc}
 use Rattle.registers.specs.Modes.{requested, settled}
 use Rattle.image.specs.Image.{imageSize, selectAt, versionAt, version, isChip, modeOf, flightOf, flightNumber, requestNumber, decoded, controlOf, encoded, coreOf, Became, Acted, Answered}
 
@@ -183,31 +184,63 @@ answered e p = record { image = λ _. p; other = λ h. absurd (h e) }
 pub unanswered : {A : Type 0} {m : List ℕ} {r a o : A} → (length m ≡ imageSize → ⊥) → r ≡ o → Answered m r a o
 unanswered h p = record { image = λ e. absurd (h e); other = λ _. p }
 
--- ---- zeros from the start, one more
-pub length-zeros : (n : ℕ) → length {A = ℕ} (replicate n 0) ≡ n
-length-zeros zero = refl
-length-zeros (suc n) = ap suc (length-zeros n)
+-- ---- RESET of the bytes before i, with the rest as it was
+abbrev pub resetTo : ℕ → List ℕ → List ℕ
+resetTo i m = keptFrom 0 (take i m) ++ drop i m
 
-zeros-snoc : (n : ℕ) (l : List ℕ) → replicate n 0 ++ (0 ∷ l) ≡ replicate (suc n) 0 ++ l
-zeros-snoc zero l = refl
-zeros-snoc (suc n) l = ap (λ (r : List ℕ). 0 ∷ r) (zeros-snoc n l)
+front : (i : ℕ) (m : List ℕ) → i ≤ length m → length (keptFrom 0 (take i m)) ≡ i
+front i m h = kept-length 0 (take i m) ∙ length-take-le i m h
 
-pub cleared-more : (m : List ℕ) (i : ℕ) → i < length m → set (replicate i 0 ++ drop i m) i 0 ≡ replicate (suc i) 0 ++ drop (suc i) m
-cleared-more m i h =
-    rw (drop-cons m i 0 h, set-at (replicate i 0) (getD m i 0) (drop (suc i) m) 0 i (length-zeros i)) (zeros-snoc i (drop (suc i) m))
+pub reset-byte : (i : ℕ) (m : List ℕ) → i < length m → getD (resetTo i m) i 0 ≡ getD m i 0
+reset-byte i m h =
+    ap (λ (r : List ℕ). getD (keptFrom 0 (take i m) ++ r) i 0) (drop-cons m i 0 h)
+    ∙ getD-at (keptFrom 0 (take i m)) (getD m i 0) (drop (suc i) m) 0 i (front i m (omega arith))
 
--- with the bytes of 00h to 7Fh cleared and the first control registers put in, the core is that of RESET
-pub reset-core : (m n p : List ℕ) (c : Control) → length m ≡ imageSize → n ≡ replicate 128 0 ++ drop 128 m → c ≡ firstControl
+pub reset-more : (i : ℕ) (m : List ℕ) → i < length m → set (resetTo i m) i (cond (isKept (regionOf i)) (getD m i 0) 0) ≡ resetTo (suc i) m
+reset-more i m h =
+    let v : ℕ = cond (isKept (regionOf i)) (getD m i 0) 0 in
+    let long : length (take i m) ≡ i = length-take-le i m (omega arith) in
+    let grown : keptFrom 0 (take (suc i) m) ≡ keptFrom 0 (take i m) ++ (v ∷ []) =
+    ap (keptFrom 0) (take-suc m i 0 h)
+    ∙ kept-snoc 0 (take i m) (getD m i 0)
+    ∙ ap (λ (n : ℕ). keptFrom 0 (take i m) ++ (cond (isKept (regionOf n)) (getD m i 0) 0 ∷ [])) (zero-add (length (take i m)) ∙ long) in
+    ap (λ (r : List ℕ). set (keptFrom 0 (take i m) ++ r) i v) (drop-cons m i 0 h)
+    ∙ set-at (keptFrom 0 (take i m)) (getD m i 0) (drop (suc i) m) v i (front i m (omega arith))
+    ∙ sym (append-snoc (keptFrom 0 (take i m)) v (drop (suc i) m))
+    ∙ ap (λ (r : List ℕ). r ++ drop (suc i) m) (sym grown)
+
+-- a part that ends before n is the part of the first n
+part-of-take : (a n t : ℕ) (l : List ℕ) → a + n ≤ t → take n (drop a (take t l)) ≡ take n (drop a l)
+part-of-take zero n t l h = take-take n t l (omega arith)
+part-of-take (suc a) n zero l h = absurd (omega arith)
+part-of-take (suc a) n (suc t) [] h = refl
+part-of-take (suc a) n (suc t) (x ∷ xs) h = part-of-take a n t xs (omega arith)
+
+reset-part : (m : List ℕ) → length m ≡ imageSize → (n a : ℕ) → a + n ≤ 128 → take n (drop a (resetTo 128 m)) ≡ keptFrom a (take n (drop a m))
+reset-part m e n a h =
+    let k : List ℕ = keptFrom 0 (take 128 m) in
+    let long : length k ≡ 128 = front 128 m (omega (arith, e)) in
+    let rest : n ≤ length (drop a k) = rw length-drop (omega (arith, long)) in
+    ap (take n) (drop-append-le a k (drop 128 m) (omega (arith, long)))
+    ∙ take-append-le n (drop a k) (drop 128 m) rest
+    ∙ ap (take n) (kept-drop a 0 (take 128 m))
+    ∙ ap (λ (b : ℕ). take n (keptFrom b (drop a (take 128 m)))) (zero-add a)
+    ∙ kept-take n a (drop a (take 128 m))
+    ∙ ap (keptFrom a) (part-of-take a n 128 m h)
+
+-- with these bytes and the first control registers put in, the core is that of RESET
+pub reset-core : (m n p : List ℕ) (c : Control) → length m ≡ imageSize → n ≡ resetTo 128 m → c ≡ firstControl
     → Acted n p (withControl (coreOf n) c) → Became m p (resetCore (coreOf m))
 unfolding resetCore
 reset-core m n p c e q f w =
-    let z : List ℕ = replicate 128 0 ++ drop 128 m in
-    let long : length z ≡ imageSize = simp length-drop (omega arith) in
-    let b : Became n p (withControl (coreOf n) c) = w .image (ap length q ∙ long) in
+    let k : List ℕ = keptFrom 0 (take 128 m) in
+    let size : length (resetTo 128 m) ≡ imageSize = length-front m k 128 (kept-length 0 (take 128 m)) ∙ e in
+    let behind : drop 128 (resetTo 128 m) ≡ drop 128 m = drop-at k (drop 128 m) 128 (front 128 m (omega (arith, e))) in
+    let b : Became n p (withControl (coreOf n) c) = w .image (ap length q ∙ size) in
     record {
       size = b .size;
-      core = b .core ∙ rw (q, f) refl;
-      rest = b .rest ∙ rw q (drop-drop 15 128 m);
+      core = b .core ∙ rw (q, f, reset-part m e 48 0 (omega arith), reset-part m e 48 48 (omega arith), reset-part m e 32 96 (omega arith)) refl;
+      rest = b .rest ∙ ap (drop selectAt) q ∙ sym (drop-drop 15 128 (resetTo 128 m)) ∙ ap (drop 15) behind ∙ drop-drop 15 128 m;
     }
 
 -- ---- a request for nothing is not carried out

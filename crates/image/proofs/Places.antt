@@ -8,9 +8,10 @@ use lib.Dec.{T, eqb, ltb, eqb→eq, ltb→lt}
 use lib.ListN.{getD, take, drop}
 use lib.Seq.{getD-take, getD-drop}
 use borrow.Author.Tests.{ne-eqb}
-use Rattle.bits.proofs.All.{every, agree, and-left, and-right}
+use Rattle.bits.proofs.All.{every, agree}
+use Rattle.registers.proofs.Regions.{inside-of, message-above, message-below}
 use Rattle.registers.specs.declared.Region.{Region}
-use Rattle.registers.specs.declared.Region.the-variants.{Profile, Configured, Bfpctrl, Tec, Rec, Caninte, Canintf, Eflg, Canstat, Canctrl, TxCtrl, TxMessage, RxCtrl, RxMessage}
+use Rattle.registers.specs.declared.Region.the-variants.{Filters, Masks, Configured, Bfpctrl, Tec, Rec, Caninte, Canintf, Eflg, Canstat, Canctrl, TxCtrl, TxMessage, RxCtrl, RxMessage}
 use Rattle.registers.specs.declared.TxBuffer.the-variants.{Txb0, Txb1, Txb2}
 use Rattle.registers.specs.declared.RxBuffer.the-variants.{Rxb0, Rxb1}
 use Rattle.registers.specs.Registers.{regionOf, holdsIn}
@@ -26,36 +27,6 @@ same-bool true true t = refl
 same-bool true false t = absurd t
 same-bool false true t = absurd t
 same-bool false false t = refl
-
--- ---- the addresses of a region
-abbrev within : Region → ℕ → Bool
-within Profile a = ltb a 48
-within Configured a = ltb a 48
-within Bfpctrl a = ltb a 48
-within Tec a = true
-within Rec a = true
-within Caninte a = true
-within Canintf a = true
-within Eflg a = true
-within Canstat a = true
-within Canctrl a = true
-within (TxCtrl b) a = true
-within (TxMessage b) a = ltb 47 a && ltb a 96
-within (RxCtrl b) a = true
-within RxMessage a = ltb 95 a
-
-inside : (a : ℕ) → a < 128 → T (within (regionOf a) a)
-unfolding regionOf
-inside a h = every (λ a. within (regionOf a) a) 128 tt a h
-
-pub inside-of : (a : ℕ) (g : Region) → a < 128 → regionOf a ≡ g → T (within g a)
-inside-of a g h e = rw e at (inside a h)
-
-pub message-above : (a : ℕ) → T (ltb 47 a && ltb a 96) → 47 < a
-message-above a t = ltb→lt 47 a (and-left (ltb 47 a) (ltb a 96) t)
-
-pub message-below : (a : ℕ) → T (ltb 47 a && ltb a 96) → a < 96
-message-below a t = ltb→lt a 96 (and-right (ltb 47 a) (ltb a 96) t)
 
 -- ---- a byte in its place
 module _ (m : List ℕ) (a : ℕ) where
@@ -78,7 +49,8 @@ unfolding decoded
 holds-place m a h = go (regionOf a) refl
   where
     go : (g : Region) → regionOf a ≡ g → isDerived g ≡ false → holdsIn g (coreOf m) a ≡ getD m (placeIn g a) 0
-    go Profile e p = config-byte m a (ltb→lt a 48 (inside-of a Profile h e))
+    go Filters e p = config-byte m a (ltb→lt a 48 (inside-of a Filters h e))
+    go Masks e p = config-byte m a (ltb→lt a 48 (inside-of a Masks h e))
     go Configured e p = config-byte m a (ltb→lt a 48 (inside-of a Configured h e))
     go Bfpctrl e p = config-byte m a (ltb→lt a 48 (inside-of a Bfpctrl h e))
     go Tec e p = cc

@@ -16,7 +16,7 @@ use Rattle.registers.specs.declared.Request.the-variants.{Nothing, Wanted}
 use Rattle.registers.specs.declared.Control.{Control}
 use Rattle.registers.specs.declared.Core.{Core}
 use Rattle.registers.specs.declared.Region.{Region}
-use Rattle.registers.specs.declared.Region.the-variants.{Profile, Configured, Bfpctrl, Tec, Rec, Caninte, Canintf, Eflg, Canstat, Canctrl, TxCtrl, TxMessage, RxCtrl, RxMessage}
+use Rattle.registers.specs.declared.Region.the-variants.{Filters, Masks, Configured, Bfpctrl, Tec, Rec, Caninte, Canintf, Eflg, Canstat, Canctrl, TxCtrl, TxMessage, RxCtrl, RxMessage}
 use Rattle.registers.specs.State.{modeNumber, txNumber, rxFlag}
 use Rattle.registers.specs.Registers.{regionOf, firstControl}
 use Rattle.registers.specs.Modes.{requested}
@@ -92,7 +92,8 @@ coreOf m = record { control = controlOf m; config = take 48 m; tx = take 48 (dro
 
 -- ---- where the byte of an address lies; CANSTAT, EFLG and TEC have none that is read as it stands
 abbrev pub isDerived : Region → Bool
-isDerived Profile = false
+isDerived Filters = false
+isDerived Masks = false
 isDerived Configured = false
 isDerived Bfpctrl = false
 isDerived Tec = true
@@ -108,7 +109,8 @@ isDerived (RxCtrl b) = false
 isDerived RxMessage = false
 
 abbrev pub placeIn : Region → ℕ → ℕ
-placeIn Profile a = a
+placeIn Filters a = a
+placeIn Masks a = a
 placeIn Configured a = a
 placeIn Bfpctrl a = a
 placeIn Tec a = 137

@@ -1,10 +1,10 @@
 // The control registers, taken out of the image and put back; power-on, RESET and the last act of a step.
 ghost use mathlib.Core.Path.{_≡_};
 ghost use mathlib.Core.List.{_++_};
-ghost use Prim.Native.Nat.{_+_, _*_, _/_};
-ghost use lib.ListN.{length, drop, replicate};
+ghost use Prim.Native.Nat.{_+_, _*_, _/_, _<_};
+ghost use lib.ListN.{length, take, drop};
 ghost use Rattle.registers.specs.State.{withControl};
-ghost use Rattle.registers.specs.Registers.{firstControl, resetCore};
+ghost use Rattle.registers.specs.Registers.{regionOf, firstControl, isKept, keptFrom, resetCore};
 ghost use Rattle.registers.specs.Modes.{settled};
 ghost use Rattle.image.specs.Image.{
   imageSize,
@@ -194,14 +194,23 @@ pub fn settle_if_asked(image: &mut [u8])
     }
 }
 
-// The bytes of 00h to 7Fh are 0.
+// Whether RESET keeps the byte of an address: one of a filter or of a message.
+fn is_kept(at: usize) -> bool
+    requires { ⌜ at < 128 ⌝ }
+    ensures { λ r. ⌜ r ≡ isKept (regionOf at) ⌝ }
+{
+    let column = at % 16;
+    ((at < 0x20) & (column < 12)) | ((0x2F < at) & (0 < column) & (column < 14))
+}
+
+// Of the bytes of 00h to 7Fh those that RESET does not keep are 0.
 fn clear(image: &mut [u8])
     requires { ⌜ length (now image) ≡ imageSize ⌝ }
-    ensures { λ _. ⌜ now (image .exit) ≡ replicate 128 0 ++ drop 128 (now (image .entry)) ⌝ }
+    ensures { λ _. ⌜ now (image .exit) ≡ keptFrom 0 (take 128 (now (image .entry))) ++ drop 128 (now (image .entry)) ⌝ }
 {
     let mut i = 0;
     while i < CANCTRL {
-        image[i] = 0;
+        image[i] = bits::choose(is_kept(i), image[i], 0);
         i += 1;
     }
 }

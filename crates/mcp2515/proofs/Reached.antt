@@ -22,13 +22,14 @@ use Rattle.registers.specs.declared.Request.{Request}
 use Rattle.registers.specs.declared.Request.the-variants.{Nothing, Wanted}
 use Rattle.registers.specs.declared.TxBuffer.{TxBuffer}
 use Rattle.registers.specs.declared.Region.{Region}
-use Rattle.registers.specs.declared.Region.the-variants.{Profile, Configured, Bfpctrl, Tec, Rec, Caninte, Canintf, Eflg, Canstat, Canctrl, TxCtrl, TxMessage, RxCtrl, RxMessage}
+use Rattle.registers.specs.declared.Region.the-variants.{Filters, Masks, Configured, Bfpctrl, Tec, Rec, Caninte, Canintf, Eflg, Canstat, Canctrl, TxCtrl, TxMessage, RxCtrl, RxMessage}
 use Rattle.registers.specs.declared.Counters.{Counters}
 use Rattle.registers.specs.declared.Control.{Control}
 use Rattle.registers.specs.declared.Core.{Core}
 use Rattle.registers.specs.State.{ABAT, WAKIF, isConfiguration, isNormal, isLoopback, isIdle, withRequest, withControl}
 use Rattle.registers.specs.Errors.{isBusOff, movedTo, tecLess, tecMore}
-use Rattle.registers.specs.Registers.{isProfile, regionOf, writableIn, writableOf, holds, powerOnCore, resetCore}
+use Rattle.registers.specs.Registers.{isProfile, regionOf, writableIn, writableOf, isKept, holdsIn, holds, powerOnCore, resetCore}
+use Rattle.registers.proofs.Kept.{reset-holds}
 use Rattle.registers.specs.Modes.{sendsIn, waits, entered, freeToChange, settledBy, settled}
 use Rattle.stores.specs.Store.{storedIn, stored, modified, aborted, canctrlHeld, canctrlStored, requestedToSend}
 use Rattle.receiving.specs.declared.Verdict.{Verdict}
@@ -44,10 +45,10 @@ use Rattle.spi.specs.declared.Act.{Act}
 use Rattle.spi.specs.declared.Act.the-variants.{Rest, ResetAll, Fetch, Store, Modify, RequestToSend, ClearFlag, FetchStatus, FetchRxStatus, Refuse}
 use Rattle.mcp2515.specs.declared.Chip.{Chip}
 use Rattle.mcp2515.specs.declared.Stepped.{Stepped}
-use Rattle.spi.specs.Instructions.{clearedOf, acted, isWrite}
-use Rattle.spi.proofs.Parts.{clash, acts-within}
+use Rattle.spi.specs.Instructions.{clearedOf, acted}
+use Rattle.spi.proofs.Parts.{clash}
 use Rattle.mcp2515.specs.Step.{powerOn, asked, stepOf, nextChip, chipAfter}
-use Rattle.mcp2515.specs.Runs.{SettledReached, isPending, PendingReached, FlightReached, FilterKept, FiltersLocked, FiltersWritten}
+use Rattle.mcp2515.specs.Runs.{SettledReached, isPending, PendingReached, FlightReached, isStore, storesInConfiguration, FiltersKept, MasksKept}
 use Rattle.mcp2515.proofs.CoreFacts.{Good}
 use Rattle.mcp2515.proofs.CoreSettle.{good-power, good-acted, good-event}
 use Rattle.mcp2515.proofs.CoreKept.{either, no-or, event-kept}
@@ -120,7 +121,8 @@ unfolding canctrlStored aborted
 canctrl-sound c v s = either Sound (hasBit v ABAT) {x = aborted (canctrlHeld c v)} {y = canctrlHeld c v} s s
 
 stored-sound : (g : Region) (k : Core) (a v : ℕ) → Sound (k .control) → Sound (storedIn g k a v .control)
-stored-sound Profile k a v s = s
+stored-sound Filters k a v s = s
+stored-sound Masks k a v s = s
 stored-sound Configured k a v s = s
 stored-sound Bfpctrl k a v s = s
 stored-sound Tec k a v s = s
@@ -245,12 +247,32 @@ unfolding powerOn powerOnCore
 flight-reached rs = run (λ (k : Core). Sound (k .control)) event-sound acted-sound powerOn rs (λ h. clash h)
 
 -- ---- filters and masks
-holds-filter : (k : Core) (a : ℕ) → regionOf (a % 128) ≡ Profile → holds k a ≡ getD (k .config) (a % 128 % 48) 0
-unfolding holds
-holds-filter k a e = rw e
+profile-in : (g : Region) (k : Core) (x : ℕ) → isProfile g ≡ true → holdsIn g k x ≡ getD (k .config) (x % 48) 0
+profile-in Filters k x e = refl
+profile-in Masks k x e = refl
+profile-in Configured k x e = refl
+profile-in Bfpctrl k x e = refl
+profile-in Tec k x e = clash (sym e)
+profile-in Rec k x e = clash (sym e)
+profile-in Caninte k x e = clash (sym e)
+profile-in Canintf k x e = clash (sym e)
+profile-in Eflg k x e = clash (sym e)
+profile-in Canstat k x e = clash (sym e)
+profile-in Canctrl k x e = clash (sym e)
+profile-in (TxCtrl b) k x e = clash (sym e)
+profile-in (TxMessage b) k x e = clash (sym e)
+profile-in (RxCtrl b) k x e = clash (sym e)
+profile-in RxMessage k x e = clash (sym e)
 
-same-filter : (j k : Core) (a : ℕ) → regionOf (a % 128) ≡ Profile → j .config ≡ k .config → holds j a ≡ holds k a
-same-filter j k a e h = holds-filter j a e ∙ ap (λ (l : List ℕ). getD l (a % 128 % 48) 0) h ∙ sym (holds-filter k a e)
+abbrev AtProfile : ℕ → Type 0
+AtProfile a = isProfile (regionOf (a % 128)) ≡ true
+
+holds-profile : (k : Core) (a : ℕ) → AtProfile a → holds k a ≡ getD (k .config) (a % 128 % 48) 0
+unfolding holds
+holds-profile k a e = profile-in (regionOf (a % 128)) k (a % 128) e
+
+same-profile : (j k : Core) (a : ℕ) → AtProfile a → j .config ≡ k .config → holds j a ≡ holds k a
+same-profile j k a e h = holds-profile j a e ∙ ap (λ (l : List ℕ). getD l (a % 128 % 48) 0) h ∙ sym (holds-profile k a e)
 
 -- BFPCTRL is the one byte with bits 5 to 0 writable, and lies apart from them
 bfpctrl-at : (x : ℕ) → x < 128 → regionOf x ≡ Bfpctrl → x ≡ 0x0C
@@ -259,14 +281,15 @@ bfpctrl-at x h e =
     let w : writableOf x ≡ 0x3F = ap (λ (g : Region). writableIn g x) e in
     eqb→eq x 0x0C (rw w at (every (λ x. not (eqb (writableOf x) 0x3F) || eqb x 0x0C) 128 tt x h))
 
-filter-at : (x : ℕ) → x < 128 → regionOf x ≡ Profile → x % 48 ≡ 0x0C → ⊥
+profile-at : (x : ℕ) → x < 128 → isProfile (regionOf x) ≡ true → x % 48 ≡ 0x0C → ⊥
 unfolding regionOf
-filter-at x h e z = rw (ap isProfile e, z) at (every (λ x. not (isProfile (regionOf x)) || not (eqb (x % 48) 0x0C)) 128 tt x h)
+profile-at x h e z = rw (e, z) at (every (λ x. not (isProfile (regionOf x)) || not (eqb (x % 48) 0x0C)) 128 tt x h)
 
 -- a store outside Configuration
 stored-filter : (g : Region) (k : Core) (x v i : ℕ) → isConfiguration (k .control .state .mode) ≡ false → (g ≡ Bfpctrl → i ≡ x % 48 → ⊥)
     → getD (storedIn g k x v .config) i 0 ≡ getD (k .config) i 0
-stored-filter Profile k x v i m ne = rw (m, set-getD)
+stored-filter Filters k x v i m ne = rw (m, set-getD)
+stored-filter Masks k x v i m ne = rw (m, set-getD)
 stored-filter Configured k x v i m ne = rw (m, set-getD)
 stored-filter Bfpctrl k x v i m ne = getD-set-other (k .config) (x % 48) i _ 0 (ne refl)
 stored-filter Tec k x v i m ne = refl
@@ -281,41 +304,45 @@ stored-filter (TxMessage b) k x v i m ne = refl
 stored-filter (RxCtrl b) k x v i m ne = refl
 stored-filter RxMessage k x v i m ne = refl
 
-written-config : (x : Act) (k : Core) → isWrite x ≡ false → acted x k .config ≡ k .config
-written-config x k e = ap (λ (j : Core). j .config) (acts-within x k e)
-
-stored-kept : (k : Core) (s v a : ℕ) → isConfiguration (k .control .state .mode) ≡ false → regionOf (a % 128) ≡ Profile
+stored-kept : (k : Core) (s v a : ℕ) → isConfiguration (k .control .state .mode) ≡ false → AtProfile a
     → holds (settledCore (stored k s v)) a ≡ holds k a
 unfolding stored
 stored-kept k s v a m e =
-    holds-filter (settledCore (stored k s v)) a e
+    holds-profile (settledCore (stored k s v)) a e
     ∙ stored-filter (regionOf (s % 128)) k (s % 128) v (a % 128 % 48) m
-    (λ g z. filter-at (a % 128) (omega arith) e (z ∙ ap (λ (x : ℕ). x % 48) (bfpctrl-at (s % 128) (omega arith) g)))
-    ∙ sym (holds-filter k a e)
+    (λ g z. profile-at (a % 128) (omega arith) e (z ∙ ap (λ (x : ℕ). x % 48) (bfpctrl-at (s % 128) (omega arith) g)))
+    ∙ sym (holds-profile k a e)
 
-acted-kept : (x : Act) (k : Core) (a : ℕ) → isConfiguration (k .control .state .mode) ≡ false → (x ≡ ResetAll → ⊥) → regionOf (a % 128) ≡ Profile
-    → holds (acted x k) a ≡ holds k a
+-- RESET keeps a filter byte
+reset-kept : (k : Core) (a : ℕ) → AtProfile a → regionOf (a % 128) ≡ Filters → holds (settledCore (resetCore k)) a ≡ holds k a
+reset-kept k a e f =
+    same-profile (settledCore (resetCore k)) (resetCore k) a e refl
+    ∙ reset-holds k a
+    ∙ ap (λ (g : Region). cond (isKept g) (holds k a) (holds powerOnCore a)) f
+
+-- an act that is no store in Configuration; if it is RESET, the address is one of a filter
+acted-kept : (x : Act) (k : Core) (a : ℕ) → isStore x && isConfiguration (k .control .state .mode) ≡ false
+    → (x ≡ ResetAll → regionOf (a % 128) ≡ Filters) → AtProfile a → holds (acted x k) a ≡ holds k a
 unfolding modified
-acted-kept Rest k a m ne e = same-filter (acted Rest k) k a e refl
-acted-kept ResetAll k a m ne e = absurd (ne refl)
-acted-kept (Fetch b) k a m ne e = same-filter (acted (Fetch b) k) k a e refl
-acted-kept (Store b v) k a m ne e = stored-kept k b v a m e
-acted-kept (Modify b w v) k a m ne e = stored-kept k b _ a m e
-acted-kept (RequestToSend w) k a m ne e = same-filter (acted (RequestToSend w) k) k a e refl
-acted-kept (ClearFlag n) k a m ne e = same-filter (acted (ClearFlag n) k) k a e refl
-acted-kept FetchStatus k a m ne e = same-filter (acted FetchStatus k) k a e refl
-acted-kept FetchRxStatus k a m ne e = same-filter (acted FetchRxStatus k) k a e refl
-acted-kept (Refuse n) k a m ne e = refl
+acted-kept Rest k a m f e = same-profile (acted Rest k) k a e refl
+acted-kept ResetAll k a m f e = reset-kept k a e (f refl)
+acted-kept (Fetch b) k a m f e = same-profile (acted (Fetch b) k) k a e refl
+acted-kept (Store b v) k a m f e = stored-kept k b v a m e
+acted-kept (Modify b w v) k a m f e = stored-kept k b _ a m e
+acted-kept (RequestToSend w) k a m f e = same-profile (acted (RequestToSend w) k) k a e refl
+acted-kept (ClearFlag n) k a m f e = same-profile (acted (ClearFlag n) k) k a e refl
+acted-kept FetchStatus k a m f e = same-profile (acted FetchStatus k) k a e refl
+acted-kept FetchRxStatus k a m f e = same-profile (acted FetchRxStatus k) k a e refl
+acted-kept (Refuse n) k a m f e = refl
 
-filter-kept : (c : Chip) (r : List ℕ) → ((a : ℕ) → regionOf (a % 128) ≡ Profile → holds (acted (asked (c .select) r) (c .core)) a ≡ holds (c .core) a)
-    → FilterKept c r
-filter-kept c r h a e =
+profile-kept : (c : Chip) (r : List ℕ) (a : ℕ) → storesInConfiguration c r ≡ false
+    → (asked (c .select) r ≡ ResetAll → regionOf (a % 128) ≡ Filters) → AtProfile a → holds (nextChip c r .core) a ≡ holds (c .core) a
+profile-kept c r a m f e =
     step-core (λ (k : Core). holds k a ≡ holds (c .core) a) c r
-    (same-filter (eventOf (c .core) r .core) (c .core) a e (event-kept (c .core) r .config)) (h a e)
+    (same-profile (eventOf (c .core) r .core) (c .core) a e (event-kept (c .core) r .config)) (acted-kept (asked (c .select) r) (c .core) a m f e)
 
-pub filters-locked : FiltersLocked
-filters-locked c r m ne = filter-kept c r (λ a e. acted-kept (asked (c .select) r) (c .core) a m ne e)
+pub filters-kept : FiltersKept
+filters-kept c r m a e = profile-kept c r a m (λ _. e) (ap isProfile e)
 
-pub filters-written : FiltersWritten
-filters-written c r w =
-    filter-kept c r (λ a e. same-filter (acted (asked (c .select) r) (c .core)) (c .core) a e (written-config (asked (c .select) r) (c .core) w))
+pub masks-kept : MasksKept
+masks-kept c r m ne a e = profile-kept c r a m (λ p. absurd (ne p)) (ap isProfile e)

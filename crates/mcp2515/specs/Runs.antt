@@ -1,9 +1,10 @@
 -- What holds of every chip that a run from power-on reaches, and what no step does to a filter or mask.
 use Prim.Native.Nat.{ℕ, _%_}
-use mathlib.Core.Bool.{Bool, true, false, not, _||_}
+use mathlib.Core.Bool.{Bool, true, false, not, _&&_, _||_}
 use mathlib.Core.List.{List}
 use mathlib.Core.Path.{_≡_}
-use Rattle.registers.specs.declared.Region.the-variants.{Profile}
+use Rattle.registers.specs.declared.Region.{Region}
+use Rattle.registers.specs.declared.Region.the-variants.{Filters, Masks}
 use Rattle.registers.specs.declared.Request.{Request}
 use Rattle.registers.specs.declared.Request.the-variants.{Nothing, Wanted}
 use Rattle.registers.specs.declared.Control.{Control}
@@ -11,8 +12,8 @@ use Rattle.registers.specs.State.{isConfiguration, isIdle}
 use Rattle.registers.specs.Registers.{regionOf, holds}
 use Rattle.registers.specs.Modes.{sendsIn, waits, settled}
 use Rattle.controller.specs.Sending.{maySend}
-use Rattle.spi.specs.declared.Act.the-variants.{ResetAll}
-use Rattle.spi.specs.Instructions.{isWrite}
+use Rattle.spi.specs.declared.Act.{Act}
+use Rattle.spi.specs.declared.Act.the-variants.{Rest, ResetAll, Fetch, Store, Modify, RequestToSend, ClearFlag, FetchStatus, FetchRxStatus, Refuse}
 use Rattle.mcp2515.specs.declared.Chip.{Chip}
 use Rattle.mcp2515.specs.Step.{powerOn, asked, nextChip, chipAfter}
 
@@ -38,15 +39,31 @@ PendingReached =
 abbrev pub FlightReached : Type 0
 FlightReached = Reached (λ c. isIdle (c .state .flight) ≡ false → maySend c ≡ true)
 
--- ---- of a step at any chip: the byte at an address of the filters and masks is as it was
-abbrev pub FilterKept : Chip → List ℕ → Type 0
-FilterKept c r = (a : ℕ) → regionOf (a % 128) ≡ Profile → holds (nextChip c r .core) a ≡ holds (c .core) a
+-- ---- of a step at any chip
+-- a byte is written, by WRITE, LOAD TX BUFFER or BIT MODIFY
+abbrev pub isStore : Act → Bool
+isStore Rest = false
+isStore ResetAll = false
+isStore (Fetch a) = false
+isStore (Store a b) = true
+isStore (Modify a m b) = true
+isStore (RequestToSend m) = false
+isStore (ClearFlag n) = false
+isStore FetchStatus = false
+isStore FetchRxStatus = false
+isStore (Refuse n) = false
 
--- outside Configuration every record but RESET leaves it
-abbrev pub FiltersLocked : Type 0
-FiltersLocked =
-    (c : Chip) (r : List ℕ) → isConfiguration (c .core .control .state .mode) ≡ false → (asked (c .select) r ≡ ResetAll → ⊥) → FilterKept c r
+abbrev pub storesInConfiguration : Chip → List ℕ → Bool
+storesInConfiguration c r = isStore (asked (c .select) r) && isConfiguration (c .core .control .state .mode)
 
--- in every mode only a written byte and RESET change it; a bus event asks for no act
-abbrev pub FiltersWritten : Type 0
-FiltersWritten = (c : Chip) (r : List ℕ) → isWrite (asked (c .select) r) ≡ false → FilterKept c r
+-- the bytes of a region hold what they held
+abbrev pub BytesKept : Region → Chip → List ℕ → Type 0
+BytesKept g c r = (a : ℕ) → regionOf (a % 128) ≡ g → holds (nextChip c r .core) a ≡ holds (c .core) a
+
+-- a filter byte changes by a store in Configuration and by nothing else: by no bus event, and not by RESET
+abbrev pub FiltersKept : Type 0
+FiltersKept = (c : Chip) (r : List ℕ) → storesInConfiguration c r ≡ false → BytesKept Filters c r
+
+-- a mask byte changes only by a store in Configuration or by RESET
+abbrev pub MasksKept : Type 0
+MasksKept = (c : Chip) (r : List ℕ) → storesInConfiguration c r ≡ false → (asked (c .select) r ≡ ResetAll → ⊥) → BytesKept Masks c r

@@ -1,13 +1,14 @@
 -- Registers: where each address lies, its writable bits, what it holds and what it reads.
-use Prim.Native.Nat.{ℕ, _*_, _%_, min}
+use Prim.Native.Nat.{ℕ, suc, _*_, _%_, min}
 use mathlib.Core.Bool.{Bool, true, false, cond, not, _&&_}
-use mathlib.Core.List.{List}
+use mathlib.Core.Path.{_≡_}
+use mathlib.Core.List.{List, [], _∷_}
 use lib.Dec.{eqb, ltb}
 use lib.Bits.{bitAnd, bitOr}
 use lib.ListN.{getD, replicate}
 use Rattle.bits.specs.Bit.{hasBit}
 use Rattle.registers.specs.declared.Region.{Region}
-use Rattle.registers.specs.declared.Region.the-variants.{Profile, Configured, Bfpctrl, Tec, Rec, Caninte, Canintf, Eflg, Canstat, Canctrl, TxCtrl, TxMessage, RxCtrl, RxMessage}
+use Rattle.registers.specs.declared.Region.the-variants.{Filters, Masks, Configured, Bfpctrl, Tec, Rec, Caninte, Canintf, Eflg, Canstat, Canctrl, TxCtrl, TxMessage, RxCtrl, RxMessage}
 use Rattle.registers.specs.declared.Mode.{Mode}
 use Rattle.registers.specs.declared.Mode.the-variants.{Configuration}
 use Rattle.registers.specs.declared.TxBuffer.{TxBuffer}
@@ -34,7 +35,7 @@ rxAt a = cond (ltb a 0x70) Rxb0 Rxb1
 -- rows 0 and 1: filters 0-2 and 3-5, then BFPCTRL and TXRTSCTRL, or TEC and REC
 abbrev pub filterRows : ℕ → Region
 filterRows a =
-    cond (ltb (a % 16) 12) Profile
+    cond (ltb (a % 16) 12) Filters
     (cond (eqb a 0x0C) Bfpctrl
     (cond (eqb a 0x0D) Configured
     (cond (eqb a 0x1C) Tec Rec)))
@@ -42,7 +43,7 @@ filterRows a =
 -- row 2: masks, CNF3-1, CANINTE, CANINTF, EFLG
 abbrev pub maskRow : ℕ → Region
 maskRow a =
-    cond (ltb a 0x28) Profile
+    cond (ltb a 0x28) Masks
     (cond (ltb a 0x2B) Configured
     (cond (eqb a 0x2B) Caninte
     (cond (eqb a 0x2C) Canintf Eflg)))
@@ -84,7 +85,8 @@ receiveBits Rxb0 = 0x64
 receiveBits Rxb1 = 0x60
 
 abbrev pub writableIn : Region → ℕ → ℕ
-writableIn Profile a = profileBits a
+writableIn Filters a = profileBits a
+writableIn Masks a = profileBits a
 writableIn Configured a = configuredBits a
 writableIn Bfpctrl a = 0x3F
 writableIn Tec a = 0x00
@@ -117,8 +119,33 @@ firstControl =
 unfoldable pub powerOnCore : Core
 powerOnCore = record { control = firstControl; config = replicate 48 0; tx = replicate 48 0; rx = replicate 32 0 }
 
+-- RESET keeps the filters and the message bytes of every buffer; a byte elsewhere goes to 0
+abbrev pub isKept : Region → Bool
+isKept Filters = true
+isKept Masks = false
+isKept Configured = false
+isKept Bfpctrl = false
+isKept Tec = false
+isKept Rec = false
+isKept Caninte = false
+isKept Canintf = false
+isKept Eflg = false
+isKept Canstat = false
+isKept Canctrl = false
+isKept (TxCtrl b) = false
+isKept (TxMessage b) = true
+isKept (RxCtrl b) = false
+isKept RxMessage = true
+
+-- of bytes that lie from address a on, those that are kept, and 0 for the others
+unfoldable pub keptFrom : ℕ → List ℕ → List ℕ
+keptFrom a [] = []
+keptFrom a (x ∷ xs) = cond (isKept (regionOf a)) x 0 ∷ keptFrom (suc a) xs
+
+-- the control registers, flight and mode request as at power-on
 unfoldable pub resetCore : Core → Core
-resetCore k = record { control = firstControl; config = replicate 48 0; tx = replicate 48 0; rx = replicate 32 0 }
+resetCore k =
+    record { control = firstControl; config = keptFrom 0x00 (k .config); tx = keptFrom 0x30 (k .tx); rx = keptFrom 0x60 (k .rx) }
 
 -- ---- INT and CANSTAT
 -- the sources enabled and flagged
@@ -151,7 +178,8 @@ rxControl r Rxb1 = r .rxb1
 
 -- From 256 on TEC reads 255; bits 5 to 0 of EFLG follow the counters. Bytes 00h to 2Fh and 30h to 5Fh lie at a % 48, 60h to 7Fh at a % 32.
 abbrev pub holdsIn : Region → Core → ℕ → ℕ
-holdsIn Profile k a = getD (k .config) (a % 48) 0
+holdsIn Filters k a = getD (k .config) (a % 48) 0
+holdsIn Masks k a = getD (k .config) (a % 48) 0
 holdsIn Configured k a = getD (k .config) (a % 48) 0
 holdsIn Bfpctrl k a = getD (k .config) (a % 48) 0
 holdsIn Tec k a = min (k .control .counters .tec) 255
@@ -169,9 +197,18 @@ holdsIn RxMessage k a = getD (k .rx) (a % 32) 0
 unfoldable pub holds : Core → ℕ → ℕ
 holds k a = holdsIn (regionOf (a % 128)) k (a % 128)
 
+-- RESET in two halves, over every address: one that is kept holds what it held, every other what it holds at power-on
+abbrev pub ResetHolds : Type 0
+ResetHolds = (k : Core) (a : ℕ) → holds (resetCore k) a ≡ cond (isKept (regionOf (a % 128))) (holds k a) (holds powerOnCore a)
+
+-- what no address shows whole, counters, mode, flight and request, is as at power-on too
+abbrev pub ResetControl : Type 0
+ResetControl = (k : Core) → resetCore k .control ≡ powerOnCore .control
+
 -- ---- what an address reads: filters and masks 0 outside Configuration
 abbrev pub isProfile : Region → Bool
-isProfile Profile = true
+isProfile Filters = true
+isProfile Masks = true
 isProfile Configured = false
 isProfile Bfpctrl = false
 isProfile Tec = false

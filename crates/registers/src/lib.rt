@@ -167,10 +167,10 @@ pub struct Core {
     pub control: Control,
 }
 
-// What lies at an address. Profile: filters and masks; Configured: CNF1-3 and TXRTSCTRL, which take writes in the same mode but
-// always read.
+// What lies at an address. Configured: CNF1-3 and TXRTSCTRL, which take writes in the same mode as filters and masks but always read.
 pub enum Region {
-    Profile,
+    Filters,
+    Masks,
     Configured,
     Bfpctrl,
     Tec,

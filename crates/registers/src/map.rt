@@ -61,7 +61,7 @@ fn filter_rows(address: u8) -> Region
     ensures { λ r. ⌜ r ≡ filterRows address ⌝ }
 {
     if address % 16 < 12 {
-        Region::Profile
+        Region::Filters
     } else if address == 12 {
         Region::Bfpctrl
     } else if address == 13 {
@@ -78,7 +78,7 @@ fn mask_row(address: u8) -> Region
     ensures { λ r. ⌜ r ≡ maskRow address ⌝ }
 {
     if address < 40 {
-        Region::Profile
+        Region::Masks
     } else if address < 43 {
         Region::Configured
     } else if address == 43 {

@@ -10,14 +10,15 @@ use borrow.Author.Tests.{ne-eqb}
 use Rattle.bits.specs.Bit.{hasBit, written}
 use Rattle.bits.proofs.All.{every, and-left, and-right}
 use Rattle.registers.specs.declared.Region.{Region}
-use Rattle.registers.specs.declared.Region.the-variants.{Profile, Configured, Bfpctrl, Tec, Rec, Caninte, Canintf, Eflg, Canstat, Canctrl, TxCtrl, TxMessage, RxCtrl, RxMessage}
+use Rattle.registers.specs.declared.Region.the-variants.{Filters, Masks, Configured, Bfpctrl, Tec, Rec, Caninte, Canintf, Eflg, Canstat, Canctrl, TxCtrl, TxMessage, RxCtrl, RxMessage}
 use Rattle.registers.specs.declared.TxBuffer.{TxBuffer}
 use Rattle.registers.specs.declared.TxBuffer.the-variants.{Txb0, Txb1, Txb2}
 use Rattle.registers.specs.State.{TXREQ, txNumber, inFlight, isConfiguration, updated, withConfig, withTxBytes}
 use Rattle.registers.specs.Registers.{txAt, regionOf, writableOf}
 use Rattle.image.specs.Image.{imageSize, modeOf, flightOf, decoded, controlOf, coreOf, placeIn, Became}
 use Rattle.image.proofs.Laws.{config-set, tx-set, unmarked, mark-one, marked, became-low}
-use Rattle.image.proofs.Places.{config-byte, tx-byte, inside-of, message-above, message-below}
+use Rattle.image.proofs.Places.{config-byte, tx-byte}
+use Rattle.registers.proofs.Regions.{inside-of, message-above, message-below}
 use Rattle.stores.specs.Store.{isLocked, storedIn}
 use Rattle.stores.specs.Merging.{mergesIn, takesWrite}
 
@@ -69,7 +70,8 @@ abbrev always : ℕ → Bool
 always a = eqb a 0x0C || eqb a 0x2B || eqb a 0x2C || eqb a 0x2D
 
 abbrev sorted : Region → ℕ → Bool
-sorted Profile a = not (always a) && ltb a 0x30 && not (ltb 0x2F a)
+sorted Filters a = not (always a) && ltb a 0x30 && not (ltb 0x2F a)
+sorted Masks a = not (always a) && ltb a 0x30 && not (ltb 0x2F a)
 sorted Configured a = not (always a) && ltb a 0x30 && not (ltb 0x2F a)
 sorted Bfpctrl a = always a
 sorted Tec a = true
@@ -109,7 +111,8 @@ unfolding decoded
 takes-write m a h = go (regionOf a) refl
   where
     go : (g : Region) → regionOf a ≡ g → mergesIn g ≡ true → takenBy (isConfiguration (modeOf (getD m 140 0))) m a (txNumber (txAt a)) ≡ takesWrite g (controlOf m)
-    go Profile e p = in-configuration m a (txNumber (txAt a)) _ (rw e at (sorted-at a h))
+    go Filters e p = in-configuration m a (txNumber (txAt a)) _ (rw e at (sorted-at a h))
+    go Masks e p = in-configuration m a (txNumber (txAt a)) _ (rw e at (sorted-at a h))
     go Configured e p = in-configuration m a (txNumber (txAt a)) _ (rw e at (sorted-at a h))
     go Bfpctrl e p = rw (holds-true (always a) (rw e at (sorted-at a h)))
     go Tec e p = cc
@@ -157,7 +160,8 @@ stored-merged m a v l h = go (regionOf a) refl
     low g p q = became-low m a (through g (getD m a 0)) (withConfig (coreOf m) (updated (take 48 m) (a % 48) (through g))) l h q
 
     go : (g : Region) → regionOf a ≡ g → mergesIn g ≡ true → Became m (updated m (placeIn g a) (through g)) (storedIn g (coreOf m) a v)
-    go Profile e p = let b : a < 48 = ltb→lt a 48 (inside-of a Profile h e) in low Profile b (config-update m a (through Profile) b)
+    go Filters e p = let b : a < 48 = ltb→lt a 48 (inside-of a Filters h e) in low Filters b (config-update m a (through Filters) b)
+    go Masks e p = let b : a < 48 = ltb→lt a 48 (inside-of a Masks h e) in low Masks b (config-update m a (through Masks) b)
     go Configured e p = let b : a < 48 = ltb→lt a 48 (inside-of a Configured h e) in low Configured b (config-update m a (through Configured) b)
     go Bfpctrl e p = let b : a < 48 = ltb→lt a 48 (inside-of a Bfpctrl h e) in low Bfpctrl b (config-update m a (through Bfpctrl) b)
     go Tec e p = let z : true ≡ false = sym p in absurd (subst T z tt)
@@ -184,7 +188,8 @@ buffer-number a = go (ltb a 0x40) (ltb a 0x50)
 
 -- ---- TEC, REC, CANSTAT and received messages take no write
 abbrev stays : Region → Bool
-stays Profile = true
+stays Filters = true
+stays Masks = true
 stays Configured = true
 stays Bfpctrl = true
 stays Tec = true
@@ -200,7 +205,8 @@ stays (RxCtrl b) = false
 stays RxMessage = true
 
 pub untouched : (g : Region) (m : List ℕ) (a v : ℕ) → length m ≡ imageSize → mergesIn g ≡ false → T (stays g) → Became m m (storedIn g (coreOf m) a v)
-untouched Profile m a v l p t = absurd (subst T p tt)
+untouched Filters m a v l p t = absurd (subst T p tt)
+untouched Masks m a v l p t = absurd (subst T p tt)
 untouched Configured m a v l p t = absurd (subst T p tt)
 untouched Bfpctrl m a v l p t = absurd (subst T p tt)
 untouched Tec m a v l p t = record { size = l; core = refl; rest = refl }

@@ -1,13 +1,14 @@
 -- Which addresses have a byte that a store merges into, and when it takes the write. These sort the rules of Store by region; they add none.
 use mathlib.Core.Bool.{Bool, true, false, not}
 use Rattle.registers.specs.declared.Region.{Region}
-use Rattle.registers.specs.declared.Region.the-variants.{Profile, Configured, Bfpctrl, Tec, Rec, Caninte, Canintf, Eflg, Canstat, Canctrl, TxCtrl, TxMessage, RxCtrl, RxMessage}
+use Rattle.registers.specs.declared.Region.the-variants.{Filters, Masks, Configured, Bfpctrl, Tec, Rec, Caninte, Canintf, Eflg, Canstat, Canctrl, TxCtrl, TxMessage, RxCtrl, RxMessage}
 use Rattle.registers.specs.declared.Control.{Control}
 use Rattle.registers.specs.State.{isConfiguration}
 use Rattle.stores.specs.Store.{isLocked}
 
 abbrev pub mergesIn : Region → Bool
-mergesIn Profile = true
+mergesIn Filters = true
+mergesIn Masks = true
 mergesIn Configured = true
 mergesIn Bfpctrl = true
 mergesIn Tec = false
@@ -24,7 +25,8 @@ mergesIn RxMessage = false
 
 -- filters, masks, CNF1-3 and TXRTSCTRL in Configuration; a message to send while it is not locked
 abbrev pub takesWrite : Region → Control → Bool
-takesWrite Profile c = isConfiguration (c .state .mode)
+takesWrite Filters c = isConfiguration (c .state .mode)
+takesWrite Masks c = isConfiguration (c .state .mode)
 takesWrite Configured c = isConfiguration (c .state .mode)
 takesWrite Bfpctrl c = true
 takesWrite Tec c = false

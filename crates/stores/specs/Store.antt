@@ -5,7 +5,7 @@ use lib.Dec.{eqb, ltb}
 use lib.Bits.{bitAnd}
 use Rattle.bits.specs.Bit.{hasBit, setBit, clearBit, merged, written}
 use Rattle.registers.specs.declared.Region.{Region}
-use Rattle.registers.specs.declared.Region.the-variants.{Profile, Configured, Bfpctrl, Tec, Rec, Caninte, Canintf, Eflg, Canstat, Canctrl, TxCtrl, TxMessage, RxCtrl, RxMessage}
+use Rattle.registers.specs.declared.Region.the-variants.{Filters, Masks, Configured, Bfpctrl, Tec, Rec, Caninte, Canintf, Eflg, Canstat, Canctrl, TxCtrl, TxMessage, RxCtrl, RxMessage}
 use Rattle.registers.specs.declared.TxBuffer.{TxBuffer}
 use Rattle.registers.specs.declared.TxBuffer.the-variants.{Txb0, Txb1, Txb2}
 use Rattle.registers.specs.declared.RxBuffer.{RxBuffer}
@@ -88,7 +88,8 @@ messageStored k b a v = withTxBytes k (updated (k .tx) (a % 48) (λ old. written
 
 -- ---- the store at an address of each region; bits that are not writable keep their value
 abbrev pub storedIn : Region → Core → ℕ → ℕ → Core
-storedIn Profile k a v = configStored k a v
+storedIn Filters k a v = configStored k a v
+storedIn Masks k a v = configStored k a v
 storedIn Configured k a v = configStored k a v
 storedIn Bfpctrl k a v = bfpctrlStored k a v
 storedIn Tec k a v = k

@@ -126,7 +126,8 @@ fn store_register(image: &mut [u8], region: Region, at: u8, value: u8)
     ensures { λ _. ⌜ Became (now (image .entry)) (now (image .exit)) (storedIn region (coreOf (now (image .entry))) at value) ⌝ }
 {
     match region {
-        Region::Profile => {}
+        Region::Filters => {}
+        Region::Masks => {}
         Region::Configured => {}
         Region::Bfpctrl => {}
         Region::Tec => {}
