@@ -13,6 +13,10 @@ use Rattle.registers.specs.declared.Region.the-variants.{Filters, Masks,
 use Rattle.registers.specs.declared.Core.{Core}
 use Rattle.registers.specs.Registers.{regionOf, isKept, keptFrom, resetCore, powerOnCore, holds, holdsIn, ResetHolds, ResetControl}
 
+pub reset-control : ResetControl
+unfolding resetCore powerOnCore
+reset-control k = refl
+
 pub kept-length : (a : ℕ) (l : List ℕ) → length (keptFrom a l) ≡ length l
 unfolding keptFrom
 kept-length a [] = refl
@@ -91,7 +95,3 @@ module _ (k : Core) (x : ℕ) (h : x < 128) where
 pub reset-holds : ResetHolds
 unfolding holds
 reset-holds k a = reset-in k (a % 128) (omega arith) (regionOf (a % 128)) refl
-
-pub reset-control : ResetControl
-unfolding resetCore powerOnCore
-reset-control k = refl
