@@ -1,7 +1,7 @@
 /*
  * Fixed cases with answers worked out by hand from the rules. Each starts at
- * power-on and leaves select high, so that they can follow one another with a
- * RESET between.
+ * power-on and leaves select high. One after another, even with a RESET
+ * between, they may answer otherwise: RESET keeps filters and message bytes.
  */
 #ifndef BENCH_CASES_H
 #define BENCH_CASES_H
@@ -20,9 +20,10 @@ struct case_group {
     size_t count;
 };
 
-/* Tables of cases_marked.c, cases_spi.c and cases_bus.c. */
+/* Tables of cases_marked.c, cases_spi.c, cases_reset.c and cases_bus.c. */
 extern const struct case_group marked_cases; /* W1 to W12, bench errors, refusals */
 extern const struct case_group spi_cases;    /* registers and instructions */
+extern const struct case_group reset_cases;  /* RESET: kept, cleared, and what follows */
 extern const struct case_group bus_cases;    /* receiving, sending, modes, errors */
 
 /* All tables one after another. */

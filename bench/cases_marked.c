@@ -3,19 +3,23 @@
 #include "model.h"
 #include "registers.h"
 
+static const struct case_group *const groups[] = {&marked_cases, &spi_cases, &reset_cases,
+                                                  &bus_cases};
+
 size_t case_count(void)
 {
-    return marked_cases.count + spi_cases.count + bus_cases.count;
+    size_t count = 0;
+    for (size_t i = 0; i < sizeof groups / sizeof *groups; i++)
+        count += groups[i]->count;
+    return count;
 }
 
 const struct fixed_case *case_at(size_t i)
 {
-    if (i < marked_cases.count)
-        return &marked_cases.cases[i];
-    i -= marked_cases.count;
-    if (i < spi_cases.count)
-        return &spi_cases.cases[i];
-    return &bus_cases.cases[i - spi_cases.count];
+    const struct case_group *const *group = groups;
+    while (i >= (*group)->count)
+        i -= (*group++)->count;
+    return &(*group)->cases[i];
 }
 
 void case_errors(struct script *s, unsigned buffer, unsigned count)

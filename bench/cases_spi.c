@@ -24,7 +24,7 @@ static const uint8_t config_only[] = {
     0x20, 0x21, 0x22, 0x23, 0x24, 0x25, 0x26, 0x27, CNF3, CNF2, CNF1, TXRTSCTRL,
 };
 
-static void read_all_after_reset(struct script *s)
+static void read_all_at_power_on(struct script *s)
 {
     sc_low(AT);
     sc_xfer(AT, SPI_READ, 0);
@@ -38,7 +38,7 @@ static void read_all_after_reset(struct script *s)
 
 static void registers_at_power_on(struct script *s)
 {
-    read_all_after_reset(AT);
+    read_all_at_power_on(AT);
 }
 
 static void writable_bits(struct script *s)
@@ -322,7 +322,7 @@ static void bit_modify_on_read_only(struct script *s)
     sc_modify(AT, TEC, 0xFF, 0xFF);
     sc_modify(AT, REC, 0xFF, 0xFF);
     sc_modify(AT, RXB0CTRL + D0, 0xFF, 0xFF);
-    read_all_after_reset(AT);
+    read_all_at_power_on(AT);
 }
 
 static void bit_modify_at_its_data_byte(struct script *s)
@@ -356,7 +356,7 @@ static void cut_sessions(struct script *s)
             sc_xfer(AT, write[i], 0);
         sc_high(AT);
     }
-    read_all_after_reset(AT);
+    read_all_at_power_on(AT);
 }
 
 static void write_takes_each_byte(struct script *s)
@@ -641,7 +641,7 @@ static void one_code_a_session(struct script *s)
 {
     static const uint8_t codes[] = {0x00, 0xFF, 0x47, 0x80, 0x82};
     nothing_more_after(AT, SPI_RESET);
-    read_all_after_reset(AT);
+    read_all_at_power_on(AT);
     sc_write(AT, CANINTE, 0x5A);
     sc_write(AT, CANINTF, 0x81);
     for (size_t i = 0; i < sizeof codes; i++)
@@ -654,9 +654,9 @@ static void one_code_a_session(struct script *s)
     sc_read(AT, TXB2CTRL, 0);
 }
 
-static void reset_clears_all(struct script *s)
+static void reset_ends_its_session(struct script *s)
 {
-    fill_both_rx(AT);
+    sc_mode(AT, MODE_NORMAL);
     sc_rts(AT, 7);
     case_errors(AT, 2, 12);
     sc_rx_error(AT, 1);
@@ -672,7 +672,7 @@ static void reset_clears_all(struct script *s)
     sc_xfer(AT, 0x00, 0);
     sc_high(AT);
     sc_refused(AT, REFUSED_NO_FLIGHT, KIND_FRAME_ENDS, END_SENT);
-    read_all_after_reset(AT);
+    read_all_at_power_on(AT);
 }
 
 static const struct fixed_case table[] = {
@@ -707,7 +707,7 @@ static const struct fixed_case table[] = {
     {"RX STATUS bits", rx_status_bits},
     {"codes that are no instruction", unknown_codes},
     {"one code a session", one_code_a_session},
-    {"RESET", reset_clears_all},
+    {"RESET leaves select low and its session over", reset_ends_its_session},
 };
 
 const struct case_group spi_cases = {table, sizeof table / sizeof *table};

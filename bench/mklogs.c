@@ -26,14 +26,14 @@ static void write_file(const char *name, const uint8_t *bytes, size_t length)
     printf("%s: %zu bytes\n", path, length);
 }
 
-/* A RESET session, after closing whatever is open: like power-on again. */
+/* A RESET session, after closing whatever is open. */
 static void start_again(struct script *s)
 {
     sc_high(s);
     sc_reset(s);
 }
 
-/* Fixed cases one after another, then random records. */
+/* The records of fixed cases one after another, then random ones. */
 static void write_cases(const char *name, size_t cases, uint64_t seed, size_t tail)
 {
     struct script s;

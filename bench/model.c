@@ -99,18 +99,13 @@ static void carry_out_request(struct model *m)
     enter_mode(m, mode);
 }
 
-static void reset_registers(struct model *m)
+void model_power_on(struct model *m)
 {
     memset(m, 0, sizeof *m);
     m->reg[CANCTRL] = 0x87;
     m->mode = MODE_CONFIGURATION;
     m->request = NO_REQUEST;
     m->flight = NO_FLIGHT;
-}
-
-void model_power_on(struct model *m)
-{
-    reset_registers(m);
 }
 
 /* ---- reading ---- */
@@ -356,9 +351,22 @@ static void spent(struct model *m)
     m->mask = 0;
 }
 
+/* Filters, and the message bytes of the five buffers. */
+static bool outlives_reset(unsigned address)
+{
+    unsigned low = address & 0x0F;
+    if (address < RXM0SIDH)
+        return low < BFPCTRL;
+    return address >= TXB0CTRL && low >= SIDH && low <= D7;
+}
+
 static void spi_reset(struct model *m)
 {
-    reset_registers(m);
+    const struct model met = *m;
+    model_power_on(m);
+    for (unsigned a = 0; a < sizeof m->reg; a++)
+        if (outlives_reset(a))
+            m->reg[a] = met.reg[a];
     m->selected = 1;
     spent(m);
 }
