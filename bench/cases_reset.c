@@ -405,7 +405,8 @@ static void kept_filter_with_its_mask(struct script *s)
 /* A message loaded before RESET goes out after it, remote and length too. */
 static void kept_message_is_sent(struct script *s)
 {
-    static const uint8_t want[2][5] = {{0x91, 0xA8, 0x56, 0x78, 0x03}, {0x91, 0xA8, 0x56, 0x78, 0x48}};
+    static const uint8_t want[2][5] = {{0x91, 0xA8, 0x56, 0x78, 0x03},
+                                       {0x91, 0xA8, 0x56, 0x78, 0x48}};
     for (unsigned i = 0; i < 6; i++) {
         uint8_t n = (uint8_t)(i % 3), remote = i < 3 ? 0 : 1;
         sc_low(AT);

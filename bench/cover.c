@@ -1,5 +1,7 @@
 #include "cover.h"
 
+#include <string.h>
+
 #include "registers.h"
 
 const char *const cover_text[COVER_POINTS] = {
@@ -22,6 +24,144 @@ static void hit_if(struct cover *c, bool condition, unsigned point)
     if (condition)
         c->count[point]++;
 }
+
+/* ---- RESET ---- */
+
+const uint8_t cover_reset_bits[COVER_ADDRESSES] = {
+    0xFF, 0xEB, 0xFF, 0xFF, 0xFF, 0xEB, 0xFF, 0xFF, 0xFF, 0xEB, 0xFF, 0xFF, 0x3F, 0x07, 0x00, 0xFF,
+    0xFF, 0xEB, 0xFF, 0xFF, 0xFF, 0xEB, 0xFF, 0xFF, 0xFF, 0xEB, 0xFF, 0xFF, 0xFF, 0xFF, 0x00, 0x00,
+    0xFF, 0xE3, 0xFF, 0xFF, 0xFF, 0xE3, 0xFF, 0xFF, 0xC7, 0xFF, 0xFF, 0xFF, 0xFF, 0xC0, 0x00, 0x00,
+    0x7B, 0xFF, 0xEB, 0xFF, 0xFF, 0x4F, 0xFF, 0xFF, 0xFF, 0xFF, 0xFF, 0xFF, 0xFF, 0xFF, 0x00, 0x00,
+    0x7B, 0xFF, 0xEB, 0xFF, 0xFF, 0x4F, 0xFF, 0xFF, 0xFF, 0xFF, 0xFF, 0xFF, 0xFF, 0xFF, 0x00, 0x00,
+    0x7B, 0xFF, 0xEB, 0xFF, 0xFF, 0x4F, 0xFF, 0xFF, 0xFF, 0xFF, 0xFF, 0xFF, 0xFF, 0xFF, 0x00, 0x00,
+    0x6F, 0xFF, 0xFB, 0xFF, 0xFF, 0x4F, 0xFF, 0xFF, 0xFF, 0xFF, 0xFF, 0xFF, 0xFF, 0xFF, 0x00, 0x00,
+    0x6F, 0xFF, 0xFB, 0xFF, 0xFF, 0x4F, 0xFF, 0xFF, 0xFF, 0xFF, 0xFF, 0xFF, 0xFF, 0xFF, 0x00, 0x00,
+};
+
+bool cover_reset_keeps(unsigned address)
+{
+    static const uint8_t kept[][2] = {{0x00, 0x0B}, {0x10, 0x1B}, {0x31, 0x3D}, {0x41, 0x4D},
+                                      {0x51, 0x5D}, {0x61, 0x6D}, {0x71, 0x7D}};
+    for (size_t i = 0; i < sizeof kept / sizeof *kept; i++)
+        if (address >= kept[i][0] && address <= kept[i][1])
+            return true;
+    return false;
+}
+
+/* The bits of an address that are other than at power-on. */
+static uint8_t other_bits(const struct model *m, unsigned address)
+{
+    if (address == TEC || address == REC)
+        return model_holds(m, (uint8_t)address);
+    return address == CANCTRL ? m->reg[CANCTRL] ^ 0x87 : m->reg[address];
+}
+
+static void reset_met(struct cover *c, const struct model *m)
+{
+    uint8_t full = m->reg[CANINTF] & (RX0IF | RX1IF);
+    c->resets++;
+    c->reset_flight = m->flight != NO_FLIGHT;
+    c->reset_mode = m->mode;
+    c->reset_request = m->request;
+    hit(c, COVER_RESET_MODE_0 + m->mode);
+    hit_if(c, m->flight != NO_FLIGHT, COVER_RESET_IN_FLIGHT);
+    hit_if(c, m->flight != NO_FLIGHT, COVER_RESET_FLIGHT_0 + m->flight);
+    hit_if(c, m->request != NO_REQUEST, COVER_RESET_REQUEST);
+    hit_if(c, m->request != NO_REQUEST && m->flight != NO_FLIGHT, COVER_RESET_REQUEST_FLIGHT);
+    hit_if(c, model_bus_off(m), COVER_RESET_BUS_OFF);
+    hit_if(c, full & RX0IF, COVER_RESET_FULL_0);
+    hit_if(c, full & RX1IF, COVER_RESET_FULL_1);
+    hit_if(c, full == (RX0IF | RX1IF), COVER_RESET_FULL_BOTH);
+    for (unsigned a = 0; a < COVER_ADDRESSES; a++) {
+        uint8_t bits = other_bits(m, a);
+        for (unsigned i = 0; i < 8; i++)
+            c->reset_bit[a][i] += bits >> i & 1;
+        c->in_hand[a] = bits != 0;
+    }
+}
+
+static void forget_mode(struct cover *c)
+{
+    c->reset_mode = MODE_CONFIGURATION;
+    c->reset_request = NO_REQUEST;
+}
+
+/* Stored to, by an instruction or a frame, or moved by an event. */
+static void let_go(struct cover *c, const struct model *before, const uint8_t *r, uint8_t answer,
+                   const struct model *after)
+{
+    bool heard = r[0] == KIND_FRAME || (r[0] == KIND_FRAME_ENDS && before->mode == MODE_LOOPBACK);
+    bool rxb0 = heard && answer == RX_IN_RXB0, rxb1 = heard && answer == RX_IN_RXB1;
+    bool store = r[0] == KIND_EXCHANGE &&
+                 (before->open == OPEN_WRITE || before->open == OPEN_MODIFY_DATA);
+    if (store)
+        c->in_hand[(before->pointer & 0x0F) == CANCTRL ? CANCTRL : before->pointer] = false;
+    for (unsigned byte = 0; byte <= D7; byte++) {
+        c->in_hand[RXB0CTRL + byte] &= !rxb0;
+        c->in_hand[RXB1CTRL + byte] &= !rxb1;
+    }
+    if (memcmp(before->reg, after->reg, sizeof after->reg) != 0)
+        for (unsigned a = 0; a < COVER_ADDRESSES; a++)
+            c->in_hand[a] &= before->reg[a] == after->reg[a];
+    if (after->tec || after->rec)
+        c->in_hand[TEC] = c->in_hand[REC] = false;
+    c->reset_flight &= after->flight == NO_FLIGHT;
+    if (after->mode != MODE_CONFIGURATION)
+        forget_mode(c);
+}
+
+/* A reply at an address; filters and masks show in Configuration alone. */
+static void read_after_reset(struct cover *c, const struct model *m)
+{
+    unsigned a = (m->pointer & 0x0F) == CANCTRL ? CANCTRL : m->pointer;
+    bool hidden = a < 0x28 && (a & 0x0F) < 0x0C && m->mode != MODE_CONFIGURATION;
+    if ((a & 0x0F) == CANSTAT) {
+        hit_if(c, c->reset_mode != MODE_CONFIGURATION, COVER_RESET_LEFT_0 + c->reset_mode);
+        hit_if(c, c->reset_request != NO_REQUEST, COVER_RESET_REQUEST_GONE);
+        forget_mode(c);
+    }
+    if (c->in_hand[a] && !hidden)
+        c->reset_read[a]++;
+}
+
+/* RX STATUS of a buffer whose bytes were there before the RESET. */
+static void status_after_reset(struct cover *c, const struct model *m)
+{
+    unsigned n = m->reg[CANINTF] & RX0IF ? 0 : 1;
+    const bool *in_hand = &c->in_hand[n ? RXB1CTRL : RXB0CTRL];
+    const uint8_t *buffer = &m->reg[n ? RXB1CTRL : RXB0CTRL];
+    if (!(m->reg[CANINTF] & (RX0IF | RX1IF)))
+        return;
+    hit_if(c, in_hand[SIDL], COVER_RESET_STATUS_0 + n);
+    hit_if(c, in_hand[SIDL] && (buffer[SIDL] & SRR), COVER_RESET_SRR_0 + n);
+    hit_if(c, in_hand[DLC] && (buffer[DLC] & RTR), COVER_RESET_RTR_0 + n);
+}
+
+/* A frame stored by a filter that was there before the RESET. */
+static void filter_after_reset(struct cover *c, const struct model *after, uint8_t answer)
+{
+    static const uint8_t filter_at[8] = {RXF0SIDH, RXF1SIDH, RXF2SIDH,
+                                         RXF3SIDH, RXF4SIDH, RXF5SIDH};
+    unsigned n = answer == RX_IN_RXB1;
+    uint8_t ctrl = after->reg[n ? RXB1CTRL : RXB0CTRL];
+    unsigned number = ctrl & (n ? FILHIT : FILHIT0);
+    unsigned sidl = filter_at[number] + RXF_SIDL;
+    if ((ctrl & RXM) == RXM || (n && number < 2))
+        return;
+    hit_if(c, c->in_hand[sidl] && (after->reg[sidl] & IDE), COVER_RESET_FILTER_0 + n);
+}
+
+/* Would be refused in a flight, or is refused for want of one. */
+static void flight_after_reset(struct cover *c, const uint8_t *r, uint8_t refusal)
+{
+    bool free_bus = r[0] == KIND_FRAME || r[0] == KIND_BUS_IDLE || r[0] == KIND_RECEIVE_ERROR;
+    if (!c->reset_flight || !(refusal == REFUSED_NO_FLIGHT || (free_bus && !refusal)))
+        return;
+    hit(c, COVER_RESET_FLIGHT_GONE);
+    c->reset_flight = false;
+}
+
+/* ---- single records ---- */
 
 static void refused(struct cover *c, const struct model *m, const uint8_t *r, uint8_t refusal)
 {
@@ -84,6 +224,8 @@ static void stored(struct cover *c, const struct model *before, const struct mod
 static void received(struct cover *c, const struct model *before, uint8_t answer,
                      const struct model *after)
 {
+    if (answer == RX_IN_RXB0 || answer == RX_IN_RXB1)
+        filter_after_reset(c, after, answer);
     if (answer == RX_LOST)
         lost(c, before, after);
     if (answer == RX_IN_RXB0)
@@ -124,6 +266,9 @@ static void own_end(struct cover *c, const struct model *before, const uint8_t *
     if (before->mode == MODE_LOOPBACK) {
         hit(c, COVER_LOOP_0 + answer);
         hit_if(c, (buffer[DLC] & DLC_LENGTH) > 8, COVER_LONG_DLC);
+        hit_if(c, c->in_hand[TXB0CTRL + 0x10 * before->flight + SIDH] &&
+                      (answer == RX_IN_RXB0 || answer == RX_IN_RXB1),
+               COVER_RESET_SENT);
         received(c, before, answer, after);
     } else {
         hit(c, COVER_SENT_NORMAL + r[1]);
@@ -153,7 +298,6 @@ static void exchanged(struct cover *c, const struct model *before, const uint8_t
 {
     switch (before->open) {
     case OPEN_CODE:
-        hit_if(c, r[1] == SPI_RESET && before->flight != NO_FLIGHT, COVER_RESET_IN_FLIGHT);
         hit_if(c, r[1] > SPI_RTS && r[1] < SPI_RTS + 8 && (before->reg[CANCTRL] & ABAT),
                COVER_ABAT_BARS);
         hit_if(c, r[1] == SPI_RTS, COVER_RTS_NONE);
@@ -170,6 +314,10 @@ static void exchanged(struct cover *c, const struct model *before, const uint8_t
         break;
     case OPEN_READ:
         hit_if(c, before->pointer == 0x7F, COVER_READ_WRAPS);
+        read_after_reset(c, before);
+        break;
+    case OPEN_RX_STATUS:
+        status_after_reset(c, before);
         break;
     case OPEN_WRITE:
         written(c, before);
@@ -278,6 +426,7 @@ static void sessions(struct cover *c, const struct model *before, const uint8_t 
 void cover_step(struct cover *c, const struct model *before, const uint8_t *record,
                 uint8_t refusal, uint8_t answer, const struct model *after)
 {
+    flight_after_reset(c, record, refusal);
     if (refusal != REFUSED_NOT) {
         refused(c, before, record, refusal);
         return;
@@ -302,12 +451,18 @@ void cover_step(struct cover *c, const struct model *before, const uint8_t *reco
         own_end(c, before, record, answer, after);
         break;
     }
+    let_go(c, before, record, answer, after);
+    if (record[0] == KIND_EXCHANGE && before->open == OPEN_CODE && record[1] == SPI_RESET)
+        reset_met(c, before);
 }
 
 struct model cover_log(struct cover *c, const uint8_t *log, size_t records)
 {
     struct model m;
     model_power_on(&m);
+    forget_mode(c);
+    c->reset_flight = false;
+    memset(c->in_hand, 0, sizeof c->in_hand);
     for (size_t i = 0; i < records; i++) {
         struct model before = m;
         uint8_t refusal, answer;

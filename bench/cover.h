@@ -5,6 +5,7 @@
 #ifndef BENCH_COVER_H
 #define BENCH_COVER_H
 
+#include <stdbool.h>
 #include <stddef.h>
 #include <stdint.h>
 
@@ -99,6 +100,35 @@
     X(MODIFY_MASKED, "BIT MODIFY with a mask that counts")              \
     X(MODIFY_FULL, "BIT MODIFY without mask")                           \
     X(RESET_IN_FLIGHT, "RESET during a flight")                         \
+    X(RESET_FLIGHT_0, "RESET with TXB0 in flight")                      \
+    X(RESET_FLIGHT_1, "RESET with TXB1 in flight")                      \
+    X(RESET_FLIGHT_2, "RESET with TXB2 in flight")                      \
+    X(RESET_FLIGHT_GONE, "record that shows that RESET took a flight")  \
+    X(RESET_REQUEST, "RESET while a mode request waits")                \
+    X(RESET_REQUEST_FLIGHT, "the same during a flight")                 \
+    X(RESET_REQUEST_GONE, "CANSTAT read after RESET took a request")    \
+    X(RESET_MODE_0, "RESET in Normal")                                  \
+    X(RESET_MODE_1, "RESET in Sleep")                                   \
+    X(RESET_MODE_2, "RESET in Loopback")                                \
+    X(RESET_MODE_3, "RESET in Listen-Only")                             \
+    X(RESET_MODE_4, "RESET in Configuration")                           \
+    X(RESET_LEFT_0, "CANSTAT read after RESET in Normal")               \
+    X(RESET_LEFT_1, "CANSTAT read after RESET in Sleep")                \
+    X(RESET_LEFT_2, "CANSTAT read after RESET in Loopback")             \
+    X(RESET_LEFT_3, "CANSTAT read after RESET in Listen-Only")          \
+    X(RESET_BUS_OFF, "RESET in bus-off")                                \
+    X(RESET_FULL_0, "RESET with RXB0 full")                             \
+    X(RESET_FULL_1, "RESET with RXB1 full")                             \
+    X(RESET_FULL_BOTH, "RESET with both full")                          \
+    X(RESET_STATUS_0, "RX STATUS of RXB0, kept from before RESET")      \
+    X(RESET_STATUS_1, "RX STATUS of RXB1, kept from before RESET")      \
+    X(RESET_SRR_0, "the same of RXB0, SIDL says remote")                \
+    X(RESET_SRR_1, "the same of RXB1, SIDL says remote")                \
+    X(RESET_RTR_0, "the same of RXB0, DLC says remote")                 \
+    X(RESET_RTR_1, "the same of RXB1, DLC says remote")                 \
+    X(RESET_FILTER_0, "kept filter took an extended frame for RXB0")    \
+    X(RESET_FILTER_1, "kept filter took an extended frame for RXB1")    \
+    X(RESET_SENT, "kept identifier sent and stored in Loopback")        \
     X(RTS_NONE, "80h")                                                  \
     X(EVENT_AFTER_RTS_NONE, "accepted event after 80h")                 \
     X(READ_RX_CLEARS, "READ RX BUFFER cleared its flag")                \
@@ -131,11 +161,26 @@ enum { COVER_BUFFER_CODES = 10, COVER_LENGTHS = 4 };
 extern const uint8_t cover_buffer_code[COVER_BUFFER_CODES];
 extern const uint8_t cover_length[COVER_LENGTHS];
 
+/* RESET by address, CANCTRL at 0Fh alone. The bits that a log can make other
+ * than RESET does; bits of the counters are not told apart. */
+enum { COVER_ADDRESSES = 128 };
+
+extern const uint8_t cover_reset_bits[COVER_ADDRESSES];
+bool cover_reset_keeps(unsigned address);
+
 struct cover {
     unsigned long count[COVER_POINTS];
     /* Sessions of exactly this length with events inside, RXnIF set at select
      * low, or TXREQ clear and no flight. */
     unsigned long buffer_sessions[COVER_BUFFER_CODES][COVER_LENGTHS];
+    unsigned long resets;
+    unsigned long reset_bit[COVER_ADDRESSES][8]; /* met other than RESET would make it */
+    unsigned long reset_read[COVER_ADDRESSES];   /* such a byte read while still in hand */
+    /* What the last RESET met, as long as nothing later changed or showed it. */
+    bool in_hand[COVER_ADDRESSES];
+    bool reset_flight;
+    uint8_t reset_mode; /* Configuration: nothing to show */
+    uint8_t reset_request;
     struct model at_low; /* the present session: the chip before its select low */
     uint8_t code;
     uint8_t code_flags; /* CANINTF at the code byte */

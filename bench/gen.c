@@ -427,7 +427,7 @@ static void plan_bus_off(struct gen *g)
     uint8_t mode = chance(g, 128) ? MODE_SLEEP : MODE_LOOPBACK;
     if (g->chip.mode == MODE_LOOPBACK)
         plan_bus_off_loopback(g);
-    else if (chance(g, 100))
+    else if (g->chip.mode == MODE_SLEEP || chance(g, 100))
         add_write(g, CANINTE, 0xFF); /* so that a frame can wake it */
     else
         add_write(g, CANCTRL, (uint8_t)(mode << 5 | ABAT | 7));
@@ -452,6 +452,48 @@ static void plan_status(struct gen *g)
 static void plan_reset(struct gen *g)
 {
     add(g, SPI_RESET);
+    g->looks = 1 + below(g, 4);
+}
+
+/* What RESET kept and cleared: a row, or a receive status once the firmware
+ * has made a buffer full again. */
+static void plan_look(struct gen *g)
+{
+    static const uint8_t rows[] = {0x00, 0x00, 0x0C, 0x10, 0x10, 0x1C, 0x20, 0x20,
+                                   0x28, 0x30, 0x40, 0x50, 0x60, 0x60, 0x70, 0x70};
+    static const uint8_t flags[] = {RX0IF, RX1IF, RX1IF, RX0IF | RX1IF};
+    const uint8_t *reg = g->chip.reg;
+    bool full = reg[CANINTF] & (RX0IF | RX1IF);
+    bool remote = (reg[RXB0CTRL + DLC] | reg[RXB1CTRL + DLC]) & RTR; /* worth a status */
+    if (full && chance(g, 180)) {
+        add(g, SPI_RX_STATUS);
+        add_random(g, 1);
+    } else if (!full && chance(g, remote ? 160 : 60)) {
+        add_write(g, CANINTF, PICK(g, flags));
+        return; /* the status is still to come */
+    } else {
+        add(g, SPI_READ);
+        add(g, PICK(g, rows));
+        add_random(g, 15);
+    }
+    g->looks -= g->looks > 0;
+}
+
+/* RESET where it has more to clear than registers. */
+static unsigned reset_weight(const struct model *m)
+{
+    unsigned weight = 0;
+    if (m->flight != NO_FLIGHT)
+        weight += 2;
+    if (m->request != NO_REQUEST)
+        weight += 8;
+    if (model_bus_off(m))
+        weight += 8;
+    if (m->mode == MODE_SLEEP)
+        weight += 2;
+    if ((m->reg[CANINTF] & (RX0IF | RX1IF)) == (RX0IF | RX1IF))
+        weight += 1;
+    return weight;
 }
 
 static void plan_unknown(struct gen *g)
@@ -488,6 +530,7 @@ enum {
     PLAN_IN_FLIGHT,
     PLAN_BUS_OFF,
     PLAN_WATCH,
+    PLAN_LOOK,
     PLANS
 };
 
@@ -495,7 +538,7 @@ static void (*const planners[PLANS])(struct gen *) = {
     plan_read,   plan_write, plan_write_run, plan_modify, plan_canctrl,   plan_filters,
     plan_rxctrl, plan_flags, plan_load,      plan_rts,    plan_txctrl,    plan_read_rx,
     plan_status, plan_reset, plan_unknown,   plan_wild,   plan_in_flight, plan_bus_off,
-    plan_watch,
+    plan_watch,  plan_look,
 };
 
 static const unsigned char weights[GEN_PROFILES][PLANS] = {
@@ -516,11 +559,10 @@ static bool near_limit(const struct model *m)
 }
 
 /* The weights of the profile, bent by what the chip could use now. */
-static void plan_session(struct gen *g)
+static void weigh_plans(const struct gen *g, unsigned weight[PLANS])
 {
     const struct model *m = &g->chip;
-    unsigned weight[PLANS], total = 0, i;
-    for (i = 0; i < PLANS; i++)
+    for (unsigned i = 0; i < PLANS; i++)
         weight[i] = weights[g->profile][i];
     weight[PLAN_CANCTRL] += m->mode == g->mix.favoured ? g->mix.mode_changes : 20u;
     if (m->reg[CANCTRL] & ABAT)
@@ -533,12 +575,22 @@ static void plan_session(struct gen *g)
         weight[PLAN_READ_RX] += 15;
     if (m->flight != NO_FLIGHT)
         weight[PLAN_IN_FLIGHT] = 30;
-    if (model_bus_off(m) && m->mode == MODE_NORMAL)
+    if (model_bus_off(m) && (m->mode == MODE_NORMAL || m->mode == MODE_SLEEP))
         weight[PLAN_BUS_OFF] = 40;
     if (model_bus_off(m) && m->mode == MODE_LOOPBACK)
         weight[PLAN_BUS_OFF] = 200; /* stays a while */
     if (near_limit(m))
         weight[PLAN_WATCH] = 100;
+    if (g->profile == GEN_MIXED)
+        weight[PLAN_RESET] += reset_weight(m);
+    if (g->looks > 0)
+        weight[PLAN_LOOK] = 150;
+}
+
+static void plan_session(struct gen *g)
+{
+    unsigned weight[PLANS], total = 0, i;
+    weigh_plans(g, weight);
     for (i = 0; i < PLANS; i++)
         total += weight[i];
     unsigned at = below(g, total);
@@ -596,6 +648,8 @@ static unsigned event_chance(const struct gen *g, unsigned usual)
     const struct model *m = &g->chip;
     if (g->profile == GEN_BUSY && m->mode != MODE_CONFIGURATION)
         return usual;
+    if (model_bus_off(m) && m->mode == MODE_NORMAL) /* sessions before it recovers */
+        return usual / 3;
     if (near_limit(m))
         return usual / 2;
     if (m->flight != NO_FLIGHT || (m->mode == MODE_NORMAL && any_txreq(m)))
@@ -617,7 +671,7 @@ static bool past_buffer_limit(const struct model *m)
 static void inside_session(struct gen *g, uint8_t *r)
 {
     if (chance(g, (g->mix.event_inside + event_chance(g, g->mix.event_inside)) / 2) ||
-        (past_buffer_limit(&g->chip) && chance(g, 100))) {
+        (past_buffer_limit(&g->chip) && chance(g, 200))) {
         make_event(g, r);
         return;
     }

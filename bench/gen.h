@@ -41,6 +41,7 @@ struct gen {
     unsigned planned;
     unsigned sent;
     uint8_t changed; /* address written last, worth a look */
+    unsigned looks;  /* sessions yet to look at what RESET left */
 };
 
 /* The bare random numbers (splitmix64). */

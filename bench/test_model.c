@@ -138,6 +138,29 @@ static void test_whole_log_rule(void)
     free(answers);
 }
 
+/* What differs, by what addresses hold, or NULL. */
+static const char *state_difference(const struct model *a, const struct model *b)
+{
+    static char text[64];
+    for (unsigned i = 0; i < 128; i++)
+        if (model_holds(a, (uint8_t)i) != model_holds(b, (uint8_t)i)) {
+            snprintf(text, sizeof text, "address %02Xh", i);
+            return text;
+        }
+    if (a->tec != b->tec || a->rec != b->rec)
+        return "counters";
+    if (a->mode != b->mode || a->request != b->request)
+        return "mode or mode request";
+    if (a->flight != b->flight)
+        return "flight";
+    if (a->selected != b->selected)
+        return "select";
+    if (a->open != b->open || a->pointer != b->pointer || a->mask != b->mask ||
+        a->clears != b->clears)
+        return "open instruction";
+    return NULL;
+}
+
 /* ---- chips that no log reaches ---- */
 
 static struct model step(struct model m, uint8_t kind, uint8_t byte1, uint8_t want_refusal,
@@ -240,6 +263,57 @@ static void test_unreached_counters(void)
         EXPECT("TEC reads", 255, model_reads(&m, TEC));
         EXPECT("recovery", 0, step(m, KIND_RECOVERY, 0, REFUSED_NOT, 0).tec);
     }
+}
+
+/* What a chip after RESET has other than the rule says, or NULL. */
+static const char *broken_reset(const struct model *before, const struct model *after)
+{
+    struct model want;
+    memset(&want, 0, sizeof want);
+    for (unsigned a = 0; a < COVER_ADDRESSES; a++)
+        if (cover_reset_keeps(a))
+            want.reg[a] = before->reg[a];
+    want.reg[CANCTRL] = 0x87;
+    want.mode = MODE_CONFIGURATION;
+    want.request = NO_REQUEST;
+    want.flight = NO_FLIGHT;
+    want.selected = 1;
+    want.open = OPEN_SPENT;
+    return model_int_low(after) ? "INT" : state_difference(&want, after);
+}
+
+/* Any bytes, mode, flight and request at all. */
+static void test_unreached_resets(uint64_t state)
+{
+    for (unsigned i = 0; i < 5000; i++) {
+        struct model m = chip_in((uint8_t)(i % MODES));
+        for (unsigned a = 0; a < COVER_ADDRESSES; a++)
+            m.reg[a] = (uint8_t)(gen_next(&state) >> 40);
+        m.tec = (uint16_t)(gen_next(&state) >> 40) % 600;
+        m.rec = (uint8_t)(gen_next(&state) >> 40);
+        m.flight = (uint8_t)(i / MODES % (NO_FLIGHT + 1));
+        m.request = i & 1 ? NO_REQUEST : (uint8_t)(i / 20 % MODES);
+        m.selected = 1;
+        m.open = OPEN_CODE;
+        struct model after = step(m, KIND_EXCHANGE, SPI_RESET, REFUSED_NOT, 0);
+        const char *difference = broken_reset(&m, &after);
+        if (difference)
+            fail(__FILE__, __LINE__, "chip %u after RESET: %s differs", i, difference);
+    }
+}
+
+/* Power-on leaves nothing of what the memory had. */
+static void test_power_on(void)
+{
+    struct model zeros, used;
+    memset(&zeros, 0, sizeof zeros);
+    memset(&used, 0xFF, sizeof used);
+    model_power_on(&used);
+    zeros.reg[CANCTRL] = 0x87;
+    zeros.mode = MODE_CONFIGURATION;
+    zeros.request = NO_REQUEST;
+    zeros.flight = NO_FLIGHT;
+    EXPECT("power-on", 0, memcmp(&zeros, &used, sizeof zeros));
 }
 
 static void test_held_and_read(void)
@@ -665,28 +739,6 @@ static void test_tidied_by_hand(void)
 
 /* ---- random logs ---- */
 
-static const char *state_difference(const struct model *a, const struct model *b)
-{
-    static char text[64];
-    for (unsigned i = 0; i < 128; i++)
-        if (model_holds(a, (uint8_t)i) != model_holds(b, (uint8_t)i)) {
-            snprintf(text, sizeof text, "address %02Xh", i);
-            return text;
-        }
-    if (a->tec != b->tec || a->rec != b->rec)
-        return "counters";
-    if (a->mode != b->mode || a->request != b->request)
-        return "mode or mode request";
-    if (a->flight != b->flight)
-        return "flight";
-    if (a->selected != b->selected)
-        return "select";
-    if (a->open != b->open || a->pointer != b->pointer || a->mask != b->mask ||
-        a->clears != b->clears)
-        return "open instruction";
-    return NULL;
-}
-
 static struct model run(const uint8_t *log, size_t records, uint8_t *answers)
 {
     struct model m;
@@ -831,6 +883,9 @@ static void test_every_step(uint64_t seed)
         gen_record(&g, record);
         model_step(&m, record, &refusal, &answer);
         const char *fact = broken_fact(&m);
+        if (!refusal && record[0] == KIND_EXCHANGE && before.open == OPEN_CODE &&
+            record[1] == SPI_RESET && broken_reset(&before, &m))
+            fact = "RESET keeps filters and message bytes and nothing else";
         if (refusal && (answer != 0 || memcmp(&before, &m, sizeof m) != 0))
             fact = "a refused record answers 0 and changes nothing";
         if (!fact)
@@ -865,10 +920,34 @@ static void check_buffer_sessions(const struct cover *c, bool show)
         }
 }
 
+/* Each bit that RESET keeps or clears was met, and its address read after. */
+static void check_resets(const struct cover *c, bool show)
+{
+    if (show)
+        printf("%10lu  RESET\n", c->resets);
+    for (unsigned a = 0; a < COVER_ADDRESSES; a++) {
+        uint8_t bits = cover_reset_bits[a];
+        bool counter = a == TEC || a == REC;
+        unsigned long sum = 0, least = c->resets;
+        for (unsigned i = 0; i < 8; i++) {
+            sum += c->reset_bit[a][i];
+            if ((bits >> i & 1) && c->reset_bit[a][i] < least)
+                least = c->reset_bit[a][i];
+        }
+        if (bits && ((counter ? sum : least) == 0 || c->reset_read[a] == 0))
+            fail(__FILE__, __LINE__, "random logs: expected RESET to meet each bit of %02Xh, "
+                 "and a READ after it, got %lu of the rarest and %lu", a, least,
+                 c->reset_read[a]);
+        if (bits && show)
+            printf("%10lu  read %02Xh as RESET %s it (rarest bit met: %lu)\n", c->reset_read[a],
+                   a, cover_reset_keeps(a) ? "kept" : "cleared", least);
+    }
+}
+
 /* Random logs are worth something only if they get everywhere. */
 static void test_coverage(uint64_t seeds, const struct tidy_tally *tally, bool show)
 {
-    enum { RECORDS = 3000, LOGS = 200 };
+    enum { RECORDS = 3000, LOGS = 300 };
     struct cover c = {0};
     uint8_t *log = malloc(RECORD_BYTES * RECORDS);
     for (unsigned i = 0; i < LOGS; i++) {
@@ -884,6 +963,7 @@ static void test_coverage(uint64_t seeds, const struct tidy_tally *tally, bool s
             printf("%10lu  %s\n", c.count[i], cover_text[i]);
     }
     check_buffer_sessions(&c, show);
+    check_resets(&c, show);
     for (unsigned i = 0; i < TIDY_COMMANDS; i++) {
         bool can_be_cut = i != TIDY_EMPTY && i != TIDY_RESET && i != TIDY_RTS && i != TIDY_UNKNOWN;
         if (tally->with_events[i] == 0 || (can_be_cut && tally->cut_with_events[i] == 0))
@@ -909,6 +989,8 @@ int main(int argc, char **argv)
     test_unreached_abort();
     test_unreached_flights();
     test_unreached_counters();
+    test_unreached_resets(seed);
+    test_power_on();
     test_held_and_read();
     test_addresses_above_7f();
     test_int_sources();
