@@ -48,7 +48,7 @@ bool cover_reset_keeps(unsigned address)
     return false;
 }
 
-/* The bits of an address that are other than at power-on. */
+/* The bits of an address that are other than at power-on; EFLG's own two alone. */
 static uint8_t other_bits(const struct model *m, unsigned address)
 {
     if (address == TEC || address == REC)
@@ -80,6 +80,7 @@ static void reset_met(struct cover *c, const struct model *m)
     }
 }
 
+/* Nothing to show by CANSTAT any more. */
 static void forget_mode(struct cover *c)
 {
     c->reset_mode = MODE_CONFIGURATION;
@@ -293,6 +294,14 @@ static void written(struct cover *c, const struct model *m)
         hit_if(c, (m->reg[a & 0x70] & TXREQ) || m->flight == (a >> 4) - 3, COVER_WRITE_LOCKED);
 }
 
+static void aborted(struct cover *c, const struct model *before, const struct model *after)
+{
+    for (unsigned n = 0; n < 3; n++) {
+        uint8_t was = before->reg[TXB0CTRL + 0x10 * n], is = after->reg[TXB0CTRL + 0x10 * n];
+        hit_if(c, (was & TXREQ) && !(is & TXREQ) && (is & ABTF), COVER_ABAT_CLEARS);
+    }
+}
+
 static void exchanged(struct cover *c, const struct model *before, const uint8_t *r,
                       const struct model *after)
 {
@@ -330,10 +339,7 @@ static void exchanged(struct cover *c, const struct model *before, const uint8_t
                COVER_MODIFY_FULL);
         break;
     }
-    for (unsigned n = 0; n < 3; n++) {
-        uint8_t was = before->reg[TXB0CTRL + 0x10 * n], is = after->reg[TXB0CTRL + 0x10 * n];
-        hit_if(c, (was & TXREQ) && !(is & TXREQ) && (is & ABTF), COVER_ABAT_CLEARS);
-    }
+    aborted(c, before, after);
 }
 
 static void counters(struct cover *c, const struct model *before, const uint8_t *r,

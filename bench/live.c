@@ -39,6 +39,7 @@ static const char *const call_name[CALLS] = {"run_log",    "power_on", "step",
 
 static unsigned long long results[CALLS][REFUSALS];       /* 0: accepted */
 static unsigned long long refusals[2][REFUSED_STATE + 1]; /* of records; [1]: on random chips */
+static unsigned long long resets[2];                      /* [1]: on random chips */
 static unsigned long long int_lines[2], modes[MODES], opens[OPEN_SPENT + 1];
 static unsigned long long waits, flights, bus_offs, hidden, addresses, wrong_versions,
     wrong_lengths, random_chips, pieces, parts[REFUSALS];
@@ -104,6 +105,8 @@ static void demand_all(void)
     demand_results();
     demand_numbers("record of a reached chip, refusal", refusals[0], REFUSED_STATE + 1);
     demand_numbers("record of a random chip, refusal", refusals[1], REFUSED_STATE + 1);
+    demand("RESET of a reached chip", resets[0]);
+    demand("RESET of a random chip", resets[1]);
     demand_numbers("INT after a record, low is 1:", int_lines, 2);
     demand_numbers("record in mode", modes, MODES);
     demand_numbers("record with the open instruction", opens, OPEN_SPENT + 1);
@@ -211,6 +214,7 @@ static void step_pair(struct pair *p, const uint8_t *record)
     uint8_t *chip = fence_lend(&chip_fence, CHIP);
     uint8_t *lent = fence_lend(&in_fence, RECORD_BYTES), *got = fence_lend(&out_fence, room);
     uint8_t before[CHIP];
+    bool resets_it = p->m.open == OPEN_CODE && record[0] == KIND_EXCHANGE && record[1] == SPI_RESET;
     memcpy(before, p->chip, CHIP);
     memcpy(chip, p->chip, CHIP);
     memcpy(lent, record, RECORD_BYTES);
@@ -231,6 +235,7 @@ static void step_pair(struct pair *p, const uint8_t *record)
     check_bytes(p, before, refusal != REFUSED_NOT);
     check_int(p);
     refusals[p->random][refusal]++;
+    resets[p->random] += resets_it && refusal == REFUSED_NOT;
 }
 
 /* ---- random logs ---- */
