@@ -56,6 +56,12 @@ static uint8_t other_bits(const struct model *m, unsigned address)
     return address == CANCTRL ? m->reg[CANCTRL] ^ 0x87 : m->reg[address];
 }
 
+/* The address that the open instruction has reached, CANCTRL at 0Fh alone. */
+static unsigned reached(const struct model *m)
+{
+    return (m->pointer & 0x0F) == CANCTRL ? CANCTRL : m->pointer % COVER_ADDRESSES;
+}
+
 static void reset_met(struct cover *c, const struct model *m)
 {
     uint8_t full = m->reg[CANINTF] & (RX0IF | RX1IF);
@@ -96,7 +102,7 @@ static void let_go(struct cover *c, const struct model *before, const uint8_t *r
     bool store = r[0] == KIND_EXCHANGE &&
                  (before->open == OPEN_WRITE || before->open == OPEN_MODIFY_DATA);
     if (store)
-        c->in_hand[(before->pointer & 0x0F) == CANCTRL ? CANCTRL : before->pointer] = false;
+        c->in_hand[reached(before)] = false;
     for (unsigned byte = 0; byte <= D7; byte++) {
         c->in_hand[RXB0CTRL + byte] &= !rxb0;
         c->in_hand[RXB1CTRL + byte] &= !rxb1;
@@ -114,7 +120,7 @@ static void let_go(struct cover *c, const struct model *before, const uint8_t *r
 /* A reply at an address; filters and masks show in Configuration alone. */
 static void read_after_reset(struct cover *c, const struct model *m)
 {
-    unsigned a = (m->pointer & 0x0F) == CANCTRL ? CANCTRL : m->pointer;
+    unsigned a = reached(m);
     bool hidden = a < 0x28 && (a & 0x0F) < 0x0C && m->mode != MODE_CONFIGURATION;
     if ((a & 0x0F) == CANSTAT) {
         hit_if(c, c->reset_mode != MODE_CONFIGURATION, COVER_RESET_LEFT_0 + c->reset_mode);
