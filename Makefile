@@ -70,7 +70,11 @@ install-check:
 	@echo "== a C program from what make install puts in place"
 	@rm -rf $(INSTALLED)
 	@$(MAKE) -s install PREFIX=$(INSTALLED) DESTDIR= >build/install.log
-	@PKG_CONFIG_PATH=$(INSTALLED)/lib/pkgconfig sh -c '$(CC) $(CFLAGS) examples/whole_log.c $$(pkg-config --cflags --libs mcp2515) -o build/installed_example'
+	@if command -v pkg-config >/dev/null; then \
+	    flags=$$(PKG_CONFIG_PATH=$(INSTALLED)/lib/pkgconfig pkg-config --cflags --libs mcp2515); \
+	else \
+	    echo "== no pkg-config here: its file is not tried"; flags="-I$(INSTALLED)/include -L$(INSTALLED)/lib -l$(LIBRARY)"; \
+	fi; $(CC) $(CFLAGS) examples/whole_log.c $$flags -o build/installed_example
 	@build/installed_example >/dev/null
 	@$(INSTALLED)/bin/mcp2515 --version
 	@$(MAKE) -s uninstall PREFIX=$(INSTALLED) DESTDIR=

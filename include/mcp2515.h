@@ -51,8 +51,9 @@ extern "C" {
  * that no run reaches. Any other length or version is no chip.
  *
  *   place    what
- *   0-127    the bytes of 00h to 7Fh at their addresses; those of control
- *            registers, TEC, REC, CANSTAT and CANCTRL are not used
+ *   0-127    the bytes of 00h to 7Fh at their addresses; those of CANINTE,
+ *            CANINTF, EFLG, TXBnCTRL, RXBnCTRL, TEC, REC, CANSTAT and CANCTRL
+ *            are not used
  *   128-131  CANCTRL, CANINTE, CANINTF, EFLG (its two overflow bits)
  *   132-136  TXB0CTRL, TXB1CTRL, TXB2CTRL, RXB0CTRL, RXB1CTRL
  *   137-139  TEC low byte, REC, TEC high byte

@@ -151,7 +151,7 @@ first=$("$tool" replay "$full" 2>"$work/err" | head -n 1)
 (trap '' PIPE; "$tool" replay "$full" 2>"$work/err"; echo $? >"$work/status") | head -n 1 >/dev/null
 status 2 "$(cat "$work/status")" "a pipe that closes early, SIGPIPE ignored"
 grep -q '^mcp2515: standard output: Broken pipe$' "$work/err" || stop "broken pipe: $(cat "$work/err")"
-"$tool" replay "$full" 2>"$work/err" | true
+env --default-signal=PIPE "$tool" replay "$full" 2>"$work/err" | true
 pipe=${PIPESTATUS[0]}
 [ "$pipe" -eq 141 ] || [ "$pipe" -eq 0 ] || stop "a pipe that closes early: status $pipe"
 [ ! -s "$work/err" ] || stop "a pipe that closes early: $(cat "$work/err")"
@@ -162,7 +162,7 @@ say "a pipe that closes early: quiet by SIGPIPE, a message where it is ignored"
 mkfifo "$work/in"
 "$tool" replay "$work/in" >"$work/out" 2>"$work/err" &
 pid=$!
-exec 9>"$work/in"
+exec 9<>"$work/in" # opened both ways, so that it waits for nobody
 head -c 40 "$full" >&9 # two records and a half
 "$replay" "$full" >"$work/all"
 for _ in $(seq 100); do

@@ -28,7 +28,8 @@ held-moved {m} {n} is none w =
       refused = λ h. absurd (h none);
       again = λ _. chip-again m n (w .packed .size) (w .spare) is;
       chip = λ _. w .packed .chip;
+      spare = w .spare;
     }
 
 pub held-kept : {m : List ℕ} {c : Chip} {r : ℕ} → (r ≡ 0 → ⊥) → Held r m m c
-held-kept h = record { refused = λ _. refl; again = λ e. absurd (h e); chip = λ e. absurd (h e) }
+held-kept h = record { refused = λ _. refl; again = λ e. absurd (h e); chip = λ e. absurd (h e); spare = refl }

@@ -3,6 +3,7 @@ use mathlib.Core.Path.{_≡_}
 use mathlib.Core.Bool.{true, cond}
 use mathlib.Core.List.{List}
 use Prim.Native.Nat.{ℕ}
+use lib.ListN.{drop}
 use Rattle.image.specs.Image.{isChip}
 use Rattle.mcp2515.specs.declared.Chip.{Chip}
 use Rattle.mcp2515.specs.ChipImage.{chipOf}
@@ -20,3 +21,5 @@ pub record Held (refusal : ℕ) (m n : List ℕ) (c : Chip) : Type 0 where
   pub refused : (refusal ≡ 0 → ⊥) → n ≡ m
   pub again : refusal ≡ 0 → isChip n ≡ true
   pub chip : refusal ≡ 0 → chipOf n ≡ c
+  -- behind the select line nothing changes: the spare bytes and the version
+  pub spare : drop 146 n ≡ drop 146 m

@@ -119,7 +119,7 @@ firstControl =
 unfoldable pub powerOnCore : Core
 powerOnCore = record { control = firstControl; config = replicate 48 0; tx = replicate 48 0; rx = replicate 32 0 }
 
--- RESET keeps the filters and the message bytes of every buffer; a byte elsewhere goes to 0
+-- RESET keeps the filters and the message bytes of every buffer; any other address goes to what it holds at power-on
 abbrev pub isKept : Region → Bool
 isKept Filters = true
 isKept Masks = false
