@@ -1,5 +1,6 @@
 -- Laws of lines. Assumes nothing.
 use mathlib.Core.Path.{_≡_, refl}
+use mathlib.Core.Bool.{true}
 use mathlib.Core.List.{List, [], _∷_, _++_, append-assoc}
 use Prim.Native.Nat.{ℕ, suc, _+_, _*_, _-_, _^_, _<_, _≤_}
 use native.Mathlib.Nat.{add-zero}
@@ -8,8 +9,9 @@ use lib.ListN.{length, length-append, drop}
 use Rattle.mcp2515.specs.declared.Chip.{Chip}
 use Rattle.mcp2515.specs.declared.Stepped.{Stepped}
 use Rattle.mcp2515.specs.Step.{stepOf}
-use Rattle.bus_log.specs.Log.{recordSize, recordAt, stepsOf, lastChip}
+use Rattle.bus_log.specs.Log.{recordSize, recordAt, stepsOf, lastChip, allRefused}
 use Rattle.bus_log.proofs.Steps.{next-step}
+use Rattle.bus_log.proofs.Advance.{first-refused}
 use Rattle.log_text.specs.Decimal.{decimalOf, decimalWithin}
 use Rattle.log_text.specs.Line.{fieldOf, lineOf, linesOf}
 use Rattle.log_text.proofs.Decimals.{decimal-length}
@@ -34,6 +36,11 @@ module _ (left n : ℕ) (c : Chip) (part : List ℕ) (at : ℕ) (s : Stepped) (m
   pub next-chip : lastChip c (stepsOf left c (drop at part)) ≡ lastChip (s .chip) (stepsOf (left - 1) (s .chip) (drop (at + recordSize) part))
   unfolding lastChip
   next-chip = rw (next-step left c part at more fits, e)
+
+  -- where each of these steps was refused, the first was, and so were the others
+  pub next-refused : allRefused (stepsOf left c (drop at part)) ≡ true
+      → (s .refusal ≡ 0 → ⊥) × (allRefused (stepsOf (left - 1) (s .chip) (drop (at + recordSize) part)) ≡ true)
+  next-refused h = first-refused s _ (rw (next-step left c part at more fits, ← e) at h)
 
 pub lines-append : (n : ℕ) (ss ts : List Stepped) → linesOf n (ss ++ ts) ≡ linesOf n ss ++ linesOf (n + length ss) ts
 unfolding linesOf

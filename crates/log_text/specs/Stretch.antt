@@ -46,10 +46,14 @@ replayed c number steps refusal =
       chip = lastChip c steps;
     }
 
+-- the steps of the records of a stretch that are run
+abbrev pub stretchSteps : Chip → ℕ → List ℕ → List Stepped
+stretchSteps c number part = stepsOf (runIn number (length part)) c part
+
 -- the replay of a stretch
 unfoldable pub replayOf : Chip → ℕ → List ℕ → Replay
 replayOf c number part =
-    replayed c number (stepsOf (runIn number (length part)) c part) (stretchRefusal number (length part))
+    replayed c number (stretchSteps c number part) (stretchRefusal number (length part))
 
 -- a replay and then another: the texts one after the other, and what the second leaves
 abbrev pub andThen : Replay → Replay → Replay

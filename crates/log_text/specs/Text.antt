@@ -7,9 +7,10 @@ use lib.Dec.{ltb}
 use lib.IntN.{ℤ}
 use lib.ListN.{length, drop}
 use Rattle.mcp2515.specs.ChipImage.{chipOf}
+use Rattle.bus_log.specs.Log.{RefusedStay}
 use Rattle.bus_log.specs.Run.{callResult}
 use Rattle.bus_log.specs.Held.{heldRefusal, Held}
-use Rattle.log_text.specs.Stretch.{replayOf, shortRoom, StretchesJoin}
+use Rattle.log_text.specs.Stretch.{stretchSteps, replayOf, shortRoom, StretchesJoin}
 
 -- the refusal: 21, then 7 for too little room
 abbrev pub textRefusal : List ℕ → List ℕ → List ℕ → ℕ
@@ -33,4 +34,6 @@ pub record TextHeld (m : List ℕ) (number : ℕ) (part out n after : List ℕ) 
   pub result : r ≡ textResult m number part out
   pub buffer : after ≡ textAfter m number part out
   pub chip : Held (textRefusal m part out) m n (replayOf (chipOf m) number part .chip)
+  -- where the chip refuses each record that is run, no byte of the chip changes
+  pub kept : RefusedStay (stretchSteps (chipOf m) number part) m n
   pub join : StretchesJoin

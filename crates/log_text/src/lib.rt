@@ -5,12 +5,13 @@ ghost use Prim.Native.Nat.{_+_, _*_, _≤_, _<_, _^_, min};
 ghost use lib.ListN.{length};
 ghost use Rattle.image.specs.Image.{imageSize};
 ghost use Rattle.mcp2515.specs.ChipImage.{chipOf, Moved};
-ghost use Rattle.bus_log.specs.Log.{recordSize, stepsOf, lastChip};
+ghost use Rattle.bus_log.specs.Log.{recordSize, stepsOf, lastChip, RefusedStay};
 ghost use Rattle.log_text.specs.Decimal.{decimalOf};
 ghost use Rattle.log_text.specs.Line.{fieldOf, lineOf};
 ghost use Rattle.log_text.specs.Stretch.{
   lineRoom,
   recordsLeft,
+  stretchSteps,
   stretchRefusal,
   stretchRoom,
   shortRoom,
@@ -99,6 +100,7 @@ fn put_records<'a>(
     requires { ⌜ (length (now image) ≡ imageSize) × (count * recordSize ≤ length (now part)) × (count * lineRoom ≤ length (now out)) × (number + count < 2 ^ 32) ⌝ }
     ensures { λ r. ⌜ Lined (chipOf (now (image .entry))) number count (now (part .entry)) (now (out .entry)) (now (out .exit)) r ⌝ }
     ensures { λ _. ⌜ Moved (now (image .entry)) (now (image .exit)) (lastChip (chipOf (now (image .entry))) (stepsOf count (chipOf (now (image .entry))) (now (part .entry)))) ⌝ }
+    ensures { λ _. ⌜ RefusedStay (stepsOf count (chipOf (now (image .entry))) (now (part .entry))) (now (image .entry)) (now (image .exit)) ⌝ }
 {
     let mut left = count;
     let mut at = 0;
@@ -159,6 +161,7 @@ fn put_stretch<'a>(image: &'a mut [u8], number: u32, part: &'a [u8], out: &'a mu
     requires { ⌜ (length (now image) ≡ imageSize) × (stretchRoom (length (now part)) ≤ length (now out)) ⌝ }
     ensures { λ r. ⌜ Written (chipOf (now (image .entry))) number (now (part .entry)) (now (out .entry)) (now (out .exit)) r ⌝ }
     ensures { λ _. ⌜ Moved (now (image .entry)) (now (image .exit)) (replayOf (chipOf (now (image .entry))) number (now (part .entry)) .chip) ⌝ }
+    ensures { λ _. ⌜ RefusedStay (stretchSteps (chipOf (now (image .entry))) number (now (part .entry))) (now (image .entry)) (now (image .exit)) ⌝ }
 {
     let size = part.len();
     let count = least(size / RECORD_SIZE, records_left(number));

@@ -1,5 +1,6 @@
 -- The loop's invariant: whatever stores the lines of the records left after those that stand there has stored the lines of all. The measure is the records left. Assumes nothing.
 use mathlib.Core.Path.{_≡_, refl, ap, sym, _∙_}
+use mathlib.Core.Bool.{true}
 use mathlib.Core.List.{List}
 use Prim.Native.Nat.{ℕ, _+_, _*_, _-_, _≤_}
 use native.Mathlib.Omega.{arith}
@@ -11,12 +12,12 @@ use Rattle.mcp2515.specs.declared.Chip.{Chip}
 use Rattle.mcp2515.specs.declared.Stepped.{Stepped}
 use Rattle.mcp2515.specs.Step.{stepOf}
 use Rattle.mcp2515.specs.ChipImage.{chipOf}
-use Rattle.bus_log.specs.Log.{recordSize, recordAt, stepsOf, lastChip}
+use Rattle.bus_log.specs.Log.{recordSize, recordAt, stepsOf, lastChip, allRefused}
 use Rattle.log_text.specs.Line.{linesOf}
 use Rattle.log_text.specs.Storing.{Stored}
 use Rattle.log_text.specs.Stretch.{lineRoom}
 use Rattle.log_text.proofs.Stores.{then-stored, none-stored}
-use Rattle.log_text.proofs.Lines.{next-line, next-chip}
+use Rattle.log_text.proofs.Lines.{next-line, next-chip, next-refused}
 use borrow.Author.Needs.{needs}
 use Rattle.log_text.proofs.put_records.Statement.{statement}
 use Rattle.log_text.proofs.put_records.Tie as tie
@@ -33,12 +34,13 @@ Inv-loop image₀ number part count out₀ left₀ at₀ len₀ n₀ image out l
     → Stored out₀ 0 (linesOf number (stepsOf count (chipOf image₀) part)) after end)
     × (lastChip (chipOf image) (stepsOf left (chipOf image) (drop at part)) ≡ lastChip (chipOf image₀) (stepsOf count (chipOf image₀) part))
     × (drop 146 image ≡ drop 146 image₀)
+    × (allRefused (stepsOf count (chipOf image₀) part) ≡ true → (image ≡ image₀) × (allRefused (stepsOf left (chipOf image) (drop at part)) ≡ true))
 
 abbrev μ-loop : tie.MeasureT-loop
 μ-loop image₀ number part count out₀ left₀ at₀ len₀ n₀ image out left at len n = left
 
 loop-holds : tie.Need-loop-holds Inv-loop μ-loop
-loop-holds c = (refl, omega arith, omega arith, refl, c .before .before .before .pre .0, (λ after end s. s), refl, refl)
+loop-holds c = (refl, omega arith, omega arith, refl, c .before .before .before .pre .0, (λ after end s. s), refl, refl, λ h. (refl, h))
 
 add-end : tie.Need-add-end Inv-loop μ-loop
 add-end c = search needs
@@ -101,6 +103,10 @@ loop-again c =
       (λ to end rest. l .inv .5 to end (rw lines (then-stored (line .0) rest))),
       sym chip ∙ l .inv .6,
       moved .spare ∙ l .inv .7,
+      (λ h.
+          let here = l .inv .8 h in
+          let first = next-refused (l .left) (l .n) (chipOf m) part (l .at) s (omega arith) (omega arith) stepped (here .1) in
+          (ran .kept (first .0) ∙ here .0, first .1)),
     )
 
 same-length : tie.Need-same-length Inv-loop μ-loop
@@ -114,7 +120,7 @@ unfolding stepsOf linesOf lastChip
 returns c =
     let l = c .before .loop in
     let none : l .left ≡ 0 = omega arith in
-    (record { text = l .inv .5 (l .out) (l .len) (rw none (none-stored (l .out) (l .len))); most = omega arith }, record { packed = record { size = l .inv .4; chip = rw none at (l .inv .6) }; spare = l .inv .7 })
+    (record { text = l .inv .5 (l .out) (l .len) (rw none (none-stored (l .out) (l .len))); most = omega arith }, (record { packed = record { size = l .inv .4; chip = rw none at (l .inv .6) }; spare = l .inv .7 }, λ h. l .inv .8 h .0))
 
 pub put-records-spec : {M : Type 1} → statement M
 put-records-spec =

@@ -35,7 +35,7 @@ returns c =
     let count = c .before .before .before .before .before .before .before .before .before .least in
     let all : count .result ≡ runIn (a .number) (length (a .part .now)) = omega arith in
     let s = c .before .before .before .before .before .before .put-records in
-    (goes-on (chipOf m) (a .number) (a .part .now) (a .out .now) _ (s .result) (count .result) all (s .ensures .0) (c .before .before .before .before .before .before .before .before .before .before .before .before .before .before .pre .1) (sym (c .before .end-refusal .ensures) ∙ c .if1 .taken), rw (replay-chip (chipOf m) (a .number) (a .part .now) (count .result) all) at (s .ensures .1))
+    (goes-on (chipOf m) (a .number) (a .part .now) (a .out .now) _ (s .result) (count .result) all (s .ensures .0) (c .before .before .before .before .before .before .before .before .before .before .before .before .before .before .pre .1) (sym (c .before .end-refusal .ensures) ∙ c .if1 .taken), (rw (replay-chip (chipOf m) (a .number) (a .part .now) (count .result) all) at (s .ensures .1 .0), rw all at (s .ensures .1 .1)))
 
 add-put-line : tie.Need-add-put-line
 add-put-line c = search needs
@@ -61,7 +61,7 @@ returns-2 c =
     let s = c .before .before .before .before .before .before .before .before .before .before .put-records in
     let r = c .before .before .before .before .before .end-refusal in
     let line = c .before .before .put-line in
-    (ends (chipOf m) (a .number) (a .part .now) (a .out .now) _ (s .result) (count .result) all (s .ensures .0) (c .before .before .before .before .before .before .before .before .before .before .before .before .before .before .before .before .before .before .pre .1) _ (line .result) (r .result) (r .ensures) (pos-of-ne-zero (c .before .before .before .before .if1 .left)) (line .ensures .0) (line .ensures .1), rw (replay-chip (chipOf m) (a .number) (a .part .now) (count .result) all) at (s .ensures .1))
+    (ends (chipOf m) (a .number) (a .part .now) (a .out .now) _ (s .result) (count .result) all (s .ensures .0) (c .before .before .before .before .before .before .before .before .before .before .before .before .before .before .before .before .before .before .pre .1) _ (line .result) (r .result) (r .ensures) (pos-of-ne-zero (c .before .before .before .before .if1 .left)) (line .ensures .0) (line .ensures .1), (rw (replay-chip (chipOf m) (a .number) (a .part .now) (count .result) all) at (s .ensures .1 .0), rw all at (s .ensures .1 .1)))
 
 pub put-stretch-spec : {M : Type 1} → statement M
 put-stretch-spec =

@@ -43,6 +43,7 @@ returns c =
       result = toZ-ofZ {w = w64} (record { sfits = c .minus .ok }) ∙ c .minus .ensures ∙ rw (← same, t);
       buffer = rw (← same, t);
       chip = held-kept (λ z. let zero : r ≡ 0 = same ∙ z in omega arith);
+      kept = λ _. refl;
       join = stretches-join;
     }
 
@@ -84,7 +85,8 @@ returns-2 c =
     record {
       result = rw none (toZ-pos w64 (omega (arith, told .most, room, c .before .before .before .before .before .before .before .before .before .before .before .before .before .before .good)) ∙ ap pos len);
       buffer = rw none (told .text .buffer ∙ sets-first (textOf (a .chip .now) (a .number) (a .part .now)) (a .text .now) (omega (arith, len, told .most, room)));
-      chip = held-moved (both .0) none (put .ensures .1);
+      chip = held-moved (both .0) none (put .ensures .1 .0);
+      kept = put .ensures .1 .1;
       join = stretches-join;
     }
 

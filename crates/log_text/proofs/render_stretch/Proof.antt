@@ -57,7 +57,7 @@ returns-2 c =
     let chip = c .before .before .before .before .before .before .before .before .before .before .pack .ensures .chip in
     let put = c .before .before .before .before .before .before .before .put-stretch in
     let number : a .number + c .before .before .least .result ≡ a .number + runIn (a .number) (length (a .part .now)) = omega arith in
-    rendering (a .chip) (a .number) (a .part .now) (a .out .now) _ _ (enough (length (a .part .now)) (length (a .out .now)) none) (rw chip at (put .ensures .0)) (c .before .end-refusal .ensures) number (c .unpack .ensures ∙ rw chip at (put .ensures .1 .packed .chip))
+    rendering (a .chip) (a .number) (a .part .now) (a .out .now) _ _ (enough (length (a .part .now)) (length (a .out .now)) none) (rw chip at (put .ensures .0)) (c .before .end-refusal .ensures) number (c .unpack .ensures ∙ rw chip at (put .ensures .1 .0 .packed .chip))
 
 pub render-stretch-spec : {M : Type 1} → statement M
 render-stretch-spec =
