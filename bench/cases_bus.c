@@ -399,7 +399,7 @@ static void loopback_forms(struct script *s)
     sc_read(AT, RXB0CTRL + SIDL, 0x60);
     sc_read(AT, RXB0CTRL + EID8, 0);
     sc_read(AT, RXB0CTRL + EID0, 0);
-    sc_read(AT, RXB0CTRL + DLC, 8);
+    sc_read(AT, RXB0CTRL + DLC, 0x0F); /* the code goes out as it stands */
     sc_read(AT, RXB0CTRL + D7, 8);
     sc_read(AT, CANINTF, TX0IF | RX0IF);
     sc_write(AT, CANINTF, 0);
@@ -413,7 +413,7 @@ static void loopback_forms(struct script *s)
         sc_write(AT, CANINTF, 0);
         load_frame(AT, 0x6B, RTR | code);
         sc_end(AT, END_SENT, RX_IN_RXB0);
-        sc_read(AT, RXB0CTRL + DLC, RTR | 8);
+        sc_read(AT, RXB0CTRL + DLC, RTR | code);
         sc_read(AT, RXB0CTRL, RXM | RXRTR);
     }
 }

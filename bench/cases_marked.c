@@ -257,7 +257,7 @@ static void field_ranges(struct script *s)
         uint8_t record[RECORD_BYTES] = {KIND_FRAME, 0, (uint8_t)value};
         if (value >= 4)
             sc_refused(AT, REFUSED_FIELD, KIND_FRAME, (uint8_t)value);
-        if (value >= 9)
+        if (value >= 16)
             sc_raw(AT, record, REFUSED_FIELD, 0);
         if (value >= 3)
             sc_refused(AT, REFUSED_FIELD, KIND_FRAME_ENDS, (uint8_t)value);
@@ -285,15 +285,16 @@ static void identifier_limits(struct script *s)
     frame_with_id(AT, FRAME_EXTENDED | FRAME_REMOTE, 0xFFFFFFFF, REFUSED_FIELD);
 }
 
+/* Codes 8 to 15 have all eight bytes: nothing is past the length then. */
 static void data_past_length(struct script *s)
 {
-    for (uint8_t length = 0; length <= 8; length++)
+    for (uint8_t code = 0; code <= LENGTH_CODE_MAX; code++)
         for (uint8_t i = 0; i < 8; i++) {
-            uint8_t record[RECORD_BYTES] = {KIND_FRAME, 0, length};
+            uint8_t record[RECORD_BYTES] = {KIND_FRAME, 0, code};
             record[8 + i] = 1;
-            bool bad = i >= length;
+            bool bad = i >= code;
             sc_raw(AT, record, bad ? REFUSED_FIELD : REFUSED_NOT, bad ? 0 : RX_NOT_LISTENING);
-            record[1] = FRAME_REMOTE; /* a remote frame has a length and no data */
+            record[1] = FRAME_REMOTE; /* a remote frame has a code and no data */
             sc_raw(AT, record, REFUSED_FIELD, 0);
         }
 }

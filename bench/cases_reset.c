@@ -402,18 +402,17 @@ static void kept_filter_with_its_mask(struct script *s)
     }
 }
 
-/* A message loaded before RESET goes out after it, remote and length too. */
+/* A message loaded before RESET goes out after it, remote bit and length code too. */
 static void kept_message_is_sent(struct script *s)
 {
     static const uint8_t want[2][5] = {{0x91, 0xA8, 0x56, 0x78, 0x03},
-                                       {0x91, 0xA8, 0x56, 0x78, 0x48}};
+                                       {0x91, 0xA8, 0x56, 0x78, 0x4F}};
     for (unsigned i = 0; i < 6; i++) {
         uint8_t n = (uint8_t)(i % 3), remote = i < 3 ? 0 : 1;
         sc_low(AT);
         sc_xfer(AT, (uint8_t)(SPI_LOAD_TX + 2 * n), 0);
-        for (unsigned j = 0; j < 4; j++)
+        for (unsigned j = 0; j < 5; j++)
             sc_xfer(AT, want[remote][j], 0);
-        sc_xfer(AT, remote ? RTR | 0x0F : 0x03, 0); /* 15 counts as 8 */
         for (uint8_t j = 0; j < 3; j++)
             sc_xfer(AT, (uint8_t)(0xD1 + j), 0);
         sc_high(AT);

@@ -272,7 +272,7 @@ static void own_end(struct cover *c, const struct model *before, const uint8_t *
     const uint8_t *buffer = &before->reg[TXB0CTRL + 0x10 * before->flight];
     if (before->mode == MODE_LOOPBACK) {
         hit(c, COVER_LOOP_0 + answer);
-        hit_if(c, (buffer[DLC] & DLC_LENGTH) > 8, COVER_LONG_DLC);
+        hit_if(c, (buffer[DLC] & DLC_CODE) > 8, COVER_LONG_DLC);
         hit_if(c, c->in_hand[TXB0CTRL + 0x10 * before->flight + SIDH] &&
                       (answer == RX_IN_RXB0 || answer == RX_IN_RXB1),
                COVER_RESET_SENT);

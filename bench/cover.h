@@ -64,7 +64,7 @@
     X(END_OSM, "failed under OSM")                                      \
     X(END_ABAT, "failed under ABAT")                                    \
     X(END_NO_RETRY, "failed after TXREQ was cleared")                   \
-    X(LONG_DLC, "length code 9 to 15 in Loopback")                      \
+    X(LONG_DLC, "length code 9 to 15 sent in Loopback")                 \
     X(ABAT_CLEARS, "ABAT cleared a TXREQ")                              \
     X(ABAT_BARS, "RTS under ABAT")                                      \
     X(MODE_0, "Normal entered")                                         \

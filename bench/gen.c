@@ -128,7 +128,7 @@ static void make_bad_frame(struct gen *g, uint8_t *r)
         if (r[2] < 8)
             r[15] = 1;
         else
-            r[2] = 9;
+            r[2] = LENGTH_CODE_MAX + 1;
         break;
     }
 }

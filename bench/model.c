@@ -6,18 +6,30 @@
 
 enum { NO_HIT = 0xFF, TX_BUFFERS = 3 };
 
+_Static_assert((int)DLC_CODE == (int)LENGTH_CODE_MAX, "DLC bits 3-0 hold every length code");
+
 /* A frame in the form of the message buffers, whether heard or sent. Bits
  * that a standard frame does not have are 0. */
 struct frame {
     const uint8_t *data;
     bool extended;
     bool remote;
-    uint8_t length;
+    uint8_t code; /* length code, as received and as sent */
     uint8_t sidh;
     uint8_t sidl;
     uint8_t eid8;
     uint8_t eid0;
 };
+
+unsigned model_data_bytes(uint8_t code)
+{
+    return code < DATA_BYTES_MAX ? code : DATA_BYTES_MAX;
+}
+
+unsigned model_carried_bytes(bool remote, uint8_t code)
+{
+    return remote ? 0 : model_data_bytes(code);
+}
 
 static uint8_t *tx_ctrl(struct model *m, unsigned n)
 {
@@ -493,12 +505,11 @@ static bool filter_takes(const struct model *m, unsigned n, const struct frame *
     if (f->extended)
         return !((filter[RXF_EID8] ^ f->eid8) & mask[RXF_EID8]) &&
                !((filter[RXF_EID0] ^ f->eid0) & mask[RXF_EID0]);
-    /* A standard data frame shows its first two data bytes to the EID bytes. */
-    if (f->remote)
-        return true;
-    if (f->length > 0 && ((filter[RXF_EID8] ^ f->data[0]) & mask[RXF_EID8]))
+    /* A standard frame shows the first two data bytes that it carries to the EID bytes. */
+    unsigned bytes = model_carried_bytes(f->remote, f->code);
+    if (bytes > 0 && ((filter[RXF_EID8] ^ f->data[0]) & mask[RXF_EID8]))
         return false;
-    return f->length < 2 || !((filter[RXF_EID0] ^ f->data[1]) & mask[RXF_EID0]);
+    return bytes < 2 || !((filter[RXF_EID0] ^ f->data[1]) & mask[RXF_EID0]);
 }
 
 static unsigned first_hit(const struct model *m, uint8_t ctrl, unsigned from, unsigned past,
@@ -529,9 +540,8 @@ static void put(struct model *m, uint8_t ctrl, uint8_t hit_bits, unsigned hit,
     b[SIDL] = (uint8_t)(f->sidl | (f->extended ? IDE : f->remote ? SRR : 0));
     b[EID8] = f->eid8;
     b[EID0] = f->eid0;
-    b[DLC] = (uint8_t)(f->length | (f->extended && f->remote ? RTR : 0));
-    if (!f->remote)
-        memcpy(&b[D0], f->data, f->length);
+    b[DLC] = (uint8_t)(f->code | (f->extended && f->remote ? RTR : 0));
+    memcpy(&b[D0], f->data, model_carried_bytes(f->remote, f->code));
 }
 
 static uint8_t put_rxb0(struct model *m, unsigned hit, const struct frame *f)
@@ -575,7 +585,7 @@ static uint32_t identifier(const uint8_t *r)
 static struct frame heard_frame(const uint8_t *r)
 {
     uint32_t id = identifier(r);
-    struct frame f = {.data = r + 8, .length = r[2]};
+    struct frame f = {.data = r + 8, .code = r[2]};
     f.extended = (r[1] & FRAME_EXTENDED) != 0;
     f.remote = (r[1] & FRAME_REMOTE) != 0;
     if (f.extended) {
@@ -596,9 +606,7 @@ static struct frame own_frame(const struct model *m, unsigned n)
     struct frame f = {.data = &b[D0], .sidh = b[SIDH]};
     f.extended = (b[SIDL] & IDE) != 0;
     f.remote = (b[DLC] & RTR) != 0;
-    f.length = b[DLC] & DLC_LENGTH;
-    if (f.length > 8)
-        f.length = 8;
+    f.code = b[DLC] & DLC_CODE;
     f.sidl = b[SIDL] & SID_LOW;
     if (f.extended) {
         f.sidl |= b[SIDL] & EID_HIGH;
@@ -705,9 +713,9 @@ static bool rest_is_zero(const uint8_t *r, size_t from)
 static bool frame_is_sound(const uint8_t *r)
 {
     uint32_t limit = r[1] & FRAME_EXTENDED ? 0x1FFFFFFF : 0x7FF;
-    if (r[1] > 3 || r[2] > 8 || r[3] != 0 || identifier(r) > limit)
+    if (r[1] > 3 || r[2] > LENGTH_CODE_MAX || r[3] != 0 || identifier(r) > limit)
         return false;
-    for (unsigned i = r[1] & FRAME_REMOTE ? 0 : r[2]; i < 8; i++)
+    for (unsigned i = model_carried_bytes(r[1] & FRAME_REMOTE, r[2]); i < DATA_BYTES_MAX; i++)
         if (r[8 + i] != 0)
             return false;
     return true;

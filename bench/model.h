@@ -28,6 +28,9 @@ enum {
 /* Byte 1 of a frame record. */
 enum { FRAME_EXTENDED = 1, FRAME_REMOTE = 2 };
 
+/* The length code: byte 2 of a frame record, bits 3-0 of a buffer's DLC byte. */
+enum { LENGTH_CODE_MAX = 15, DATA_BYTES_MAX = 8 };
+
 /* Byte 1 of an own-frame-ends record. */
 enum { END_SENT, END_LOST, END_ERROR };
 
@@ -92,6 +95,12 @@ struct model {
     uint8_t mask;    /* BIT MODIFY's mask, once given */
     uint8_t clears;  /* RXnIF that select high clears, for READ RX BUFFER */
 };
+
+/* The data bytes that a length code stands for; 9 to 15 mean eight, as 8 does. */
+unsigned model_data_bytes(uint8_t code);
+
+/* The data bytes that a frame carries: none if it is remote, whatever its code. */
+unsigned model_carried_bytes(bool remote, uint8_t code);
 
 void model_power_on(struct model *m);
 

@@ -72,14 +72,14 @@ void sc_xfer(struct script *s, uint8_t sent, uint8_t reply)
     accepted(s, KIND_EXCHANGE, sent, reply);
 }
 
-void sc_frame(struct script *s, uint8_t flags, uint32_t id, uint8_t length, const char *data,
+void sc_frame(struct script *s, uint8_t flags, uint32_t id, uint8_t code, const char *data,
               uint8_t answer)
 {
-    uint8_t record[RECORD_BYTES] = {KIND_FRAME, flags, length};
+    uint8_t record[RECORD_BYTES] = {KIND_FRAME, flags, code};
     for (unsigned i = 0; i < 4; i++)
         record[4 + i] = (uint8_t)(id >> (24 - 8 * i));
     if (data)
-        memcpy(record + 8, data, length);
+        memcpy(record + 8, data, model_data_bytes(code));
     sc_raw(s, record, REFUSED_NOT, answer);
 }
 

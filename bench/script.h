@@ -37,7 +37,7 @@ void sc_refused(struct script *s, uint8_t refusal, uint8_t kind, uint8_t byte1);
 void sc_low(struct script *s);
 void sc_high(struct script *s);
 void sc_xfer(struct script *s, uint8_t sent, uint8_t reply);
-void sc_frame(struct script *s, uint8_t flags, uint32_t id, uint8_t length, const char *data,
+void sc_frame(struct script *s, uint8_t flags, uint32_t id, uint8_t code, const char *data,
               uint8_t answer);
 void sc_idle(struct script *s, uint8_t answer);
 void sc_end(struct script *s, uint8_t outcome, uint8_t answer);

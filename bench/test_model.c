@@ -302,6 +302,18 @@ static void test_unreached_resets(uint64_t state)
     }
 }
 
+/* The one definition that model, generator and cases share, against the rule's words. */
+static void test_data_bytes(void)
+{
+    static const uint8_t want[LENGTH_CODE_MAX + 1] = {0, 1, 2, 3, 4, 5, 6, 7,
+                                                      8, 8, 8, 8, 8, 8, 8, 8};
+    for (uint8_t code = 0; code <= LENGTH_CODE_MAX; code++) {
+        EXPECT("data bytes of a code", want[code], model_data_bytes(code));
+        EXPECT("data bytes of a data frame", want[code], model_carried_bytes(false, code));
+        EXPECT("data bytes of a remote frame", 0, model_carried_bytes(true, code));
+    }
+}
+
 /* Power-on leaves nothing of what the memory had. */
 static void test_power_on(void)
 {
@@ -990,6 +1002,7 @@ int main(int argc, char **argv)
     test_unreached_flights();
     test_unreached_counters();
     test_unreached_resets(seed);
+    test_data_bytes();
     test_power_on();
     test_held_and_read();
     test_addresses_above_7f();

@@ -8,9 +8,13 @@
  *   1     exchange            byte 1: byte sent                the reply byte
  *   2     select high                                          0
  *   3     frame heard         byte 1: bit 0 extended, bit 1    0 no match, 1 in RXB0,
- *                             remote; byte 2: length 0 to 8;   2 in RXB1, 3 lost,
- *                             bytes 4-7: identifier, high      4 not listening, 5 woke
- *                             byte first; bytes 8-15: data
+ *                             remote; byte 2: data length      2 in RXB1, 3 lost,
+ *                             code (DLC) 0 to 15, where 9 to   4 not listening, 5 woke
+ *                             15 mean eight data bytes;
+ *                             bytes 4-7: identifier, high
+ *                             byte first; bytes 8-15: data, 0
+ *                             past those that the code means,
+ *                             all 0 in a remote frame
  *   4     bus idle                                             TX buffer that goes, 3 none
  *   5     own frame ends      byte 1: 0 sent, 1 arbitration    0; in Loopback 0 to 3
  *                             lost, 2 error                    as for a frame

@@ -44,7 +44,7 @@ fn fields_within(log: &[u8], at: usize) -> Fields
     Fields {
         kind: log[at],
         field: log[at + 1],
-        length: log[at + 2],
+        code: log[at + 2],
         spare: log[at + 3],
         identifier: records::joined(log[at + 4], log[at + 5], log[at + 6], log[at + 7]),
         data: records::word(

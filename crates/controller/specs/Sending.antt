@@ -1,5 +1,5 @@
 -- Sending: the choice at bus idle and the three ends of an own frame.
-use Prim.Native.Nat.{ℕ, _+_, _*_, _/_, _%_, min, max}
+use Prim.Native.Nat.{ℕ, _+_, _*_, _/_, _%_, max}
 use mathlib.Core.Bool.{Bool, cond, not, _&&_}
 use mathlib.Core.List.{List, [], _∷_}
 use lib.Dec.{eqb, leb}
@@ -12,7 +12,6 @@ use Rattle.registers.specs.declared.Flight.the-variants.{Idle, Of}
 use Rattle.registers.specs.declared.TxControl.{TxControl}
 use Rattle.registers.specs.declared.Counters.{Counters}
 use Rattle.registers.specs.declared.Control.{Control}
-use Rattle.registers.specs.declared.Core.{Core}
 use Rattle.registers.specs.State.{OSM, TXREQ, TXERR, MLOA, ABTF, MERRF, isNormal, txNumber, txFlag, txControl, withTxControl, withTx, withCanintf, withFlight}
 use Rattle.registers.specs.Errors.{isBusOff, movedTo, tecLess, tecMore}
 use Rattle.registers.specs.Modes.{sendsIn, waits}
@@ -88,21 +87,22 @@ endedBy LostArbitration c b = lostBy c b
 endedBy Failed c b = counted (failedBy c b) (tecMore (c .counters))
 
 -- ---- the frame that a buffer sends
--- the length sent: the code, but never above 8
-abbrev pub lengthSent : ℕ → ℕ
-lengthSent code = min code 8
+-- DLC bits 3-0 are the length code, which goes out as it stands, 9 to 15 too
+abbrev pub codeSent : ℕ → ℕ
+codeSent dlc = dlc % 16
 
 abbrev pub identifierSent : Bool → ℕ → ℕ → ℕ → ℕ → ℕ
 identifierSent extended sidh sidl eid8 eid0 =
     cond extended (sidh * 0x200000 + sidl / 32 * 0x40000 + sidl % 4 * 0x10000 + eid8 * 0x100 + eid0) (sidh * 8 + sidl / 32)
 
--- SIDL bit 3 extended, DLC bit 6 remote; the bytes of TXBn lie from 16 n on
+-- SIDL bit 3 extended, DLC bit 6 remote; the bytes of TXBn lie from 16 n on. Of the data those
+-- count that the frame carries: Receiving.carriedBy, by Records.dataBytes
 unfoldable pub frameAt : List ℕ → ℕ → Frame
 frameAt tx at =
     record {
       extended = hasBit (getD tx (at + 2) 0) 3;
       remote = hasBit (getD tx (at + 5) 0) 6;
-      length = lengthSent (getD tx (at + 5) 0 % 16);
+      code = codeSent (getD tx (at + 5) 0);
       identifier = identifierSent (hasBit (getD tx (at + 2) 0) 3) (getD tx (at + 1) 0) (getD tx (at + 2) 0) (getD tx (at + 3) 0) (getD tx (at + 4) 0);
       bytes =
           getD tx (at + 6) 0 ∷ getD tx (at + 7) 0 ∷ getD tx (at + 8) 0 ∷ getD tx (at + 9) 0

@@ -1,13 +1,12 @@
 // The choice at bus idle and the ends of an own frame.
 ghost use mathlib.Core.Path.{_≡_};
-ghost use mathlib.Core.Bool.{cond, _&&_};
-ghost use Prim.Native.Nat.{_+_, _*_, _%_, _≤_, max, min};
+ghost use mathlib.Core.Bool.{_&&_};
+ghost use Prim.Native.Nat.{_+_, _*_, _%_, _≤_, max};
 ghost use lib.ListN.{length, take, drop};
 ghost use Rattle.image.specs.Image.{imageSize};
 ghost use Rattle.bits.specs.Bit.{hasBit, setBit};
 ghost use Rattle.registers.specs.State.{OSM, isNormal, txFlag, withFlight, withCanintf};
 ghost use Rattle.registers.specs.Modes.{waits};
-ghost use Rattle.registers.specs.State.{abortsAll};
 ghost use Rattle.controller.specs.Sending.{
   rankOf,
   bestBy,
@@ -22,7 +21,7 @@ ghost use Rattle.controller.specs.Sending.{
   lostBy,
   failedBy,
   endedBy,
-  lengthSent,
+  codeSent,
   identifierSent,
   frameAt,
   frameSent,
@@ -240,10 +239,10 @@ pub fn end(end: End, control: Control, buffer: TxBuffer) -> Control
     }
 }
 
-fn length_sent(code: u8) -> u8
-    ensures { λ r. ⌜ r ≡ lengthSent code ⌝ }
+fn code_sent(dlc: u8) -> u8
+    ensures { λ r. ⌜ r ≡ codeSent dlc ⌝ }
 {
-    if code <= 8 { code } else { 8 }
+    dlc % 16
 }
 
 fn identifier_sent(extended: bool, sidh: u8, sidl: u8, eid8: u8, eid0: u8) -> u32
@@ -281,7 +280,7 @@ fn frame_at(image: &[u8], at: usize) -> Frame
     Frame {
         extended,
         remote: dlc / RTR % 2 == 1,
-        length: length_sent(dlc % 16),
+        code: code_sent(dlc),
         identifier: identifier_sent(extended, image[at + 1], sidl, image[at + 3], image[at + 4]),
         bytes,
     }

@@ -1,18 +1,28 @@
--- A frame's bytes stored in the image are its bytes stored among the received ones. Assumes nothing.
+-- A frame's bytes stored in the image are its bytes stored among the received ones; which of its data bytes there are. Assumes nothing.
 use mathlib.Core.Path.{_≡_, refl, ap, sym, _∙_}
-use mathlib.Core.Bool.{cond}
+use mathlib.Core.Bool.{Bool, true, false, cond}
 use mathlib.Core.List.{List}
 use Prim.Native.Nat.{ℕ, zero, suc, _+_, _<_, _≤_}
 use native.Mathlib.Omega.{arith}
 use lib.Dec.{ltb}
 use lib.ListN.{length, getD, set, drop}
 use lib.Seq.{getD-take, getD-drop}
+use borrow.Author.Tests.{lt-ltb, le-ltb, ltb-true, ltb-false}
 use Rattle.records.specs.declared.Frame.{Frame}
+use Rattle.records.specs.Records.{dataBytes}
 use Rattle.registers.specs.declared.Core.{Core}
 use Rattle.registers.specs.State.{updated, withRxBytes}
 use Rattle.image.specs.Image.{imageSize, coreOf, Became}
 use Rattle.image.proofs.Laws.{rx-set, became-low, followed}
 use Rattle.receiving.specs.Receiving.{sidhOf, sidlOf, eid8Of, eid0Of, dlcOf, carriedBy, headed, filled, bytesStored}
+
+-- ---- of the eight data bytes a code tells those that it stands for
+pub code-tells : (j code : ℕ) → j < 8 → ltb j code ≡ ltb j (dataBytes code)
+code-tells j code h = go (ltb j code) refl
+  where
+    go : (b : Bool) → ltb j code ≡ b → ltb j code ≡ ltb j (dataBytes code)
+    go true e = rw e (sym (lt-ltb j (dataBytes code) (omega (arith, ltb-true j code e))))
+    go false e = rw e (sym (le-ltb j (dataBytes code) (omega (arith, ltb-false j code e))))
 
 -- ---- nothing changed
 pub unchanged : (m : List ℕ) → length m ≡ imageSize → Became m m (coreOf m)

@@ -51,13 +51,13 @@ eid8Of f = cond (f .extended) (f .identifier / 0x100 % 256) 0
 abbrev pub eid0Of : Frame → ℕ
 eid0Of f = cond (f .extended) (f .identifier % 256) 0
 
--- bit 6 of DLC marks a remote extended frame
+-- DLC keeps the length code as received; bit 6 marks a remote extended frame
 abbrev pub dlcOf : Frame → ℕ
-dlcOf f = bitOr (f .length) (cond (f .extended && f .remote) 0x40 0)
+dlcOf f = bitOr (f .code) (cond (f .extended && f .remote) 0x40 0)
 
 -- the data bytes that the frame carries
 abbrev pub carriedBy : Frame → ℕ
-carriedBy f = carried (f .remote) (f .length)
+carriedBy f = carried (f .remote) (f .code)
 
 -- ---- what a filter compares
 -- the identifier; in a standard data frame EID8 and EID0 meet the first two data bytes, if it has them. A reach of 0 compares nothing.

@@ -1,7 +1,8 @@
 // A frame as register bytes.
 ghost use mathlib.Core.Path.{_≡_};
 ghost use mathlib.Core.Bool.{cond};
-ghost use Prim.Native.Nat.{_+_, _*_, _%_, _≤_};
+ghost use Prim.Native.Nat.{ℕ, _+_, _*_, _%_, _≤_, _<_};
+ghost use lib.Dec.{ltb};
 ghost use lib.ListN.{length};
 ghost use Rattle.registers.specs.State.{withRxBytes};
 ghost use Rattle.image.specs.Image.{imageSize, coreOf, Became};
@@ -21,7 +22,6 @@ ghost use Rattle.receiving.specs.Receiving.{
 use crate::Key;
 use crate::Verdict;
 use records::Frame;
-use records::carried_by;
 use registers::RTR;
 
 // Where the bytes of RXB0 and RXB1 lie, behind their control bytes.
@@ -86,20 +86,23 @@ fn eid0(frame: Frame) -> u8
 fn dlc(frame: Frame) -> u8
     ensures { λ r. ⌜ r ≡ dlcOf frame ⌝ }
 {
-    frame.length | bits::choose(frame.extended & frame.remote, RTR, 0)
+    let code = frame.code;
+    code | bits::choose(frame.extended & frame.remote, RTR, 0)
 }
 
-fn carried_in(frame: Frame) -> u8
-    ensures { λ r. ⌜ r ≡ carriedBy frame ⌝ }
+// Of the eight data bytes the frame carries those with a number below this one. A code above 8 serves as it stands, since
+// no ninth byte is asked for.
+fn data_end(frame: Frame) -> u8
+    ensures { λ r. ⌜ ((j : ℕ) → j < 8 → ltb j r ≡ ltb j (carriedBy frame)) ⌝ }
 {
-    carried_by(frame.remote, frame.length)
+    if frame.remote { 0 } else { frame.code }
 }
 
 pub fn key_of(frame: Frame) -> Key
     ensures { λ r. ⌜ r ≡ keyOf frame ⌝ }
 {
     let extended = frame.extended;
-    let count = carried_in(frame);
+    let end = data_end(frame);
     let first = frame.bytes[0];
     let second = frame.bytes[1];
     Key {
@@ -109,12 +112,12 @@ pub fn key_of(frame: Frame) -> Key
         eid8: bits::choose(extended, eid8(frame), first),
         eid0: bits::choose(extended, eid0(frame), second),
         reach1: bits::choose(extended, 227, 224),
-        reach2: bits::choose(extended | (0 < count), 255, 0),
-        reach3: bits::choose(extended | (1 < count), 255, 0),
+        reach2: bits::choose(extended | (0 < end), 255, 0),
+        reach3: bits::choose(extended | (1 < end), 255, 0),
     }
 }
 
-// The identifier and length bytes of the buffer at `at`.
+// The identifier bytes and DLC of the buffer at `at`.
 fn head(image: &mut [u8], at: usize, frame: Frame)
     requires { ⌜ (length (now image) ≡ imageSize) × (at ≤ 112) ⌝ }
     ensures { λ _. ⌜ now (image .exit) ≡ headed (now (image .entry)) at frame ⌝ }
@@ -131,13 +134,13 @@ fn fill(image: &mut [u8], at: usize, frame: Frame)
     requires { ⌜ (length (now image) ≡ imageSize) × (at ≤ 112) ⌝ }
     ensures { λ _. ⌜ now (image .exit) ≡ filled (now (image .entry)) at frame 8 ⌝ }
 {
-    let count = carried_in(frame);
+    let end = data_end(frame);
     let mut j: u8 = 0;
     while j < 8 {
         let i = at + 6 + (j as usize);
         let byte = frame.bytes[j as usize];
         let old = image[i];
-        image[i] = bits::choose(j < count, byte, old);
+        image[i] = bits::choose(j < end, byte, old);
         j += 1;
     }
 }

@@ -1,14 +1,15 @@
 -- A record taken apart and put together: 16 bytes of a list, and the bytes of a number. Assumes nothing.
 use mathlib.Core.Path.{_≡_, refl, ap, sym}
-use mathlib.Core.Bool.{Bool, true, false, _&&_, _||_, and-assoc, and-comm, and-true}
+use mathlib.Core.Bool.{Bool, true, false, cond, _&&_, _||_, and-assoc, and-comm, and-true}
 use mathlib.Core.List.{List, [], _∷_}
-use Prim.Native.Nat.{ℕ, zero, suc, _+_, _-_, _*_, _/_, _%_, _^_, _≤_, _<_, min, max}
+use Prim.Native.Nat.{ℕ, zero, suc, _+_, _-_, _*_, _/_, _%_, _^_, _≤_, _<_, max}
 use native.Mathlib.Nat.{add-zero, add-suc, pow-suc, one-le-pow, pow-le-pow-right, div-one, div-eq-of-lt, div-div-eq-div-mul, div-lt-iff-lt-mul, le-max-right, max-zero, lt-of-lt-of-le}
 use native.Mathlib.Omega.{arith}
 use lib.ListN.{length, take, drop, getD}
 use lib.Seq.{drop-cons}
 use lib.Dec.{eqb, ltb, leb}
-use borrow.Author.Tests.{eq-eqb, ne-eqb, eqb-true, eqb-false, le-leb, leb-true, leb-false, ltb-true, ltb-false}
+use Rattle.records.specs.Records.{dataBytes, carried}
+use borrow.Author.Tests.{eq-eqb, ne-eqb, eqb-true, eqb-false, leb-true, leb-false, ltb-true, ltb-false}
 
 -- n elements of a list, the first at + k
 listed : List ℕ → ℕ → ℕ → ℕ → List ℕ
@@ -88,19 +89,14 @@ under x m h = go (leb x (m - 1)) refl
         rw (e, none)
     go false e = rw e (sym (ne-eqb (x / m) 0 (λ z. omega (arith, leb-false x (m - 1) e, div-lt-iff-lt-mul {x = x} {y = 1} h .0 (omega (arith, z))))))
 
--- of eight bytes those past the first n are 0 where the number is that small
-pub past-leb : (x n : ℕ) → x < 256 ^ 8 → leb x (256 ^ min n 8 - 1) ≡ past x n 8
-past-leb x n h = go (leb n 8) refl
-  where
-    go : (b : Bool) → leb n 8 ≡ b → leb x (256 ^ min n 8 - 1) ≡ past x n 8
-    go true e =
-        let few : min n 8 ≡ n = omega (arith, leb-true n 8 e) in
-        rw (few, past-is x n 8 h) (under x (256 ^ n) (one-le-pow n 256 (omega arith)))
-    go false e =
-        let many : min n 8 ≡ 8 = omega (arith, leb-false n 8 e) in
-        let more : 8 ≤ n = omega (arith, leb-false n 8 e) in
-        let none : x / 256 ^ n ≡ 0 = div-eq-of-lt (lt-of-lt-of-le h (pow-le-pow-right (omega arith) more)) in
-        rw (many, past-is x n 8 h, none) (le-leb x (256 ^ 8 - 1) (omega arith))
+-- of k bytes those past the first n are 0 where the number is that small
+pub past-leb : (x n k : ℕ) → x < 256 ^ k → leb x (256 ^ n - 1) ≡ past x n k
+past-leb x n k h = rw (past-is x n k h) (under x (256 ^ n) (one-le-pow n 256 (omega arith)))
+
+-- ---- a remote frame carries what code 0 stands for
+pub carried-code : (remote : Bool) (code : ℕ) → dataBytes (cond remote 0 code) ≡ carried remote code
+carried-code true code = refl
+carried-code false code = refl
 
 -- a number of four bytes, high byte first
 module _ (x : ℕ) (h : x < 256 ^ 4) where

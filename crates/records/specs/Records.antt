@@ -1,5 +1,5 @@
 -- Calls, records and answers: the record of 16 bytes, its kind, its fields, and what refusal 2 names.
-use Prim.Native.Nat.{ℕ, zero, suc, _+_, _*_, _/_, _%_}
+use Prim.Native.Nat.{ℕ, zero, suc, _+_, _*_, _/_, _%_, min}
 use mathlib.Core.Bool.{Bool, true, false, cond, _&&_, _||_}
 use mathlib.Core.List.{List, [], _∷_}
 use lib.Dec.{eqb, ltb, leb}
@@ -70,20 +70,28 @@ zeros r i (suc n) = zeros r i n && eqb (byteAt r (i + n)) 0
 abbrev pub identifierOf : List ℕ → ℕ
 identifierOf r = byteAt r 4 * 0x1000000 + byteAt r 5 * 0x10000 + byteAt r 6 * 0x100 + byteAt r 7
 
--- extended and remote are bits 0 and 1 of byte 1, the length is byte 2, the data lie from byte 8 on
+-- extended and remote are bits 0 and 1 of byte 1, the length code is byte 2, the data lie from byte 8 on
 unfoldable pub frameOf : List ℕ → Frame
 frameOf r =
     record {
       extended = hasBit (byteAt r 1) 0;
       remote = hasBit (byteAt r 1) 1;
-      length = byteAt r 2;
+      code = byteAt r 2;
       identifier = identifierOf r;
       bytes = byteAt r 8 ∷ byteAt r 9 ∷ byteAt r 10 ∷ byteAt r 11 ∷ byteAt r 12 ∷ byteAt r 13 ∷ byteAt r 14 ∷ byteAt r 15 ∷ [];
     }
 
--- the data bytes that a frame carries: none if remote
+-- a length code goes up to 15
+abbrev pub largestCode : ℕ
+largestCode = 15
+
+-- the data bytes that a length code stands for: 9 to 15 mean eight, as 8 does
+abbrev pub dataBytes : ℕ → ℕ
+dataBytes code = min code 8
+
+-- the data bytes that a frame carries: those of its code, none if remote
 abbrev pub carried : Bool → ℕ → ℕ
-carried remote length = cond remote 0 length
+carried remote code = cond remote 0 (dataBytes code)
 
 -- the largest identifier, extended and standard
 abbrev pub largestIdentifier : Bool → ℕ
@@ -96,7 +104,7 @@ zerosPast r n (suc j) = zerosPast r n j && (ltb j n || eqb (byteAt r (8 + j)) 0)
 
 abbrev pub soundFrame : List ℕ → Bool
 soundFrame r =
-    leb (byteAt r 1) 3 && leb (byteAt r 2) 8 && eqb (byteAt r 3) 0
+    leb (byteAt r 1) 3 && leb (byteAt r 2) largestCode && eqb (byteAt r 3) 0
     && leb (identifierOf r) (largestIdentifier (hasBit (byteAt r 1) 0))
     && zerosPast r (carried (hasBit (byteAt r 1) 1) (byteAt r 2)) 8
 
@@ -133,7 +141,7 @@ soundOf r = soundBy (kindOf r) r
 -- ---- a record taken apart: the 16 bytes that its fields stand for, the identifier high byte first, the data as one number low byte first
 unfoldable pub recordOf : Fields → List ℕ
 recordOf f =
-    f .kind ∷ f .field ∷ f .length ∷ f .spare
+    f .kind ∷ f .field ∷ f .code ∷ f .spare
     ∷ f .identifier / 0x1000000 % 256 ∷ f .identifier / 0x10000 % 256 ∷ f .identifier / 0x100 % 256 ∷ f .identifier % 256
     ∷ f .data % 256 ∷ f .data / 0x100 % 256 ∷ f .data / 0x10000 % 256 ∷ f .data / 0x1000000 % 256
     ∷ f .data / 0x100000000 % 256 ∷ f .data / 0x10000000000 % 256 ∷ f .data / 0x1000000000000 % 256 ∷ f .data / 0x100000000000000 % 256 ∷ []

@@ -1,11 +1,12 @@
 // A record of 16 bytes taken apart: its kind, its fields, and whether refusal 2 names it.
 ghost use mathlib.Core.Path.{_≡_};
 ghost use mathlib.Core.List.{[], _∷_};
-ghost use Prim.Native.Nat.{_+_, _*_, _/_, _%_, _<_, _^_, _-_, min};
+ghost use Prim.Native.Nat.{_+_, _*_, _/_, _%_, _<_, _^_, _-_};
 ghost use Rattle.records.specs.Records.{
   kindBy,
   zeros,
   frameOf,
+  dataBytes,
   carried,
   largestIdentifier,
   zerosPast,
@@ -28,11 +29,11 @@ pub enum Kind {
     Unknown,
 }
 
-// A frame on the bus. Of `bytes` only the first bytes count, as many as it carries.
+// A frame on the bus; `code` is its data length code. Of `bytes` only the first bytes count, as many as it carries.
 pub struct Frame {
     pub extended: bool,
     pub remote: bool,
-    pub length: u8,
+    pub code: u8,
     pub identifier: u32,
     pub bytes: [u8; 8],
 }
@@ -41,7 +42,7 @@ pub struct Frame {
 pub struct Fields {
     pub kind: u8,
     pub field: u8,
-    pub length: u8,
+    pub code: u8,
     pub spare: u8,
     pub identifier: u32,
     pub data: u64,
@@ -64,6 +65,9 @@ pub const REFUSED_IN_FLIGHT: u8 = 3;
 pub const REFUSED_NO_FLIGHT: u8 = 4;
 
 pub const REFUSED_STATE: u8 = 5;
+
+// A length code has four bits.
+const LARGEST_CODE: u8 = 15;
 
 pub fn kind_by(number: u8) -> Kind
     ensures { λ r. ⌜ r ≡ kindBy number ⌝ }
@@ -110,7 +114,7 @@ pub fn fields_of(record: [u8; 16]) -> Fields
     Fields {
         kind: record[0],
         field: record[1],
-        length: record[2],
+        code: record[2],
         spare: record[3],
         identifier: joined(record[4], record[5], record[6], record[7]),
         data: word(
@@ -149,17 +153,10 @@ pub fn frame_of(fields: Fields) -> Frame
     Frame {
         extended: fields.field % 2 == 1,
         remote: fields.field / 2 % 2 == 1,
-        length: fields.length,
+        code: fields.code,
         identifier: fields.identifier,
         bytes: split(data),
     }
-}
-
-// How many data bytes a frame carries.
-pub fn carried_by(remote: bool, length: u8) -> u8
-    ensures { λ r. ⌜ r ≡ carried remote length ⌝ }
-{
-    if remote { 0 } else { length }
 }
 
 fn largest_identifier(extended: bool) -> u32
@@ -168,11 +165,11 @@ fn largest_identifier(extended: bool) -> u32
     if extended { 536870911 } else { 2047 }
 }
 
-// The largest number of data bytes with none but the first count.
-fn largest_data(count: u8) -> u64
-    ensures { λ r. ⌜ r ≡ 256 ^ min count 8 - 1 ⌝ }
+// The largest number that the data bytes of a length code make.
+fn largest_data(code: u8) -> u64
+    ensures { λ r. ⌜ r ≡ 256 ^ dataBytes code - 1 ⌝ }
 {
-    match count {
+    match code {
         0 => 0,
         1 => 0xFF,
         2 => 0xFFFF,
@@ -185,23 +182,23 @@ fn largest_data(count: u8) -> u64
     }
 }
 
-// The data bytes past the first count are 0.
-fn past_zero(fields: Fields, count: u8) -> bool
-    ensures { λ r. ⌜ r ≡ zerosPast (recordOf fields) count 8 ⌝ }
+// The data bytes that the frame does not carry are 0.
+fn past_zero(fields: Fields, remote: bool) -> bool
+    ensures { λ r. ⌜ r ≡ zerosPast (recordOf fields) (carried remote (fields .code)) 8 ⌝ }
 {
-    fields.data <= largest_data(count)
+    fields.data <= largest_data(bits::choose(remote, 0, fields.code))
 }
 
 fn is_sound_frame(fields: Fields) -> bool
     ensures { λ r. ⌜ r ≡ soundFrame (recordOf fields) ⌝ }
 {
     let most = largest_identifier(fields.field % 2 == 1);
-    let count = carried_by(fields.field / 2 % 2 == 1, fields.length);
+    let remote = fields.field / 2 % 2 == 1;
     (fields.field <= 3)
-        & (fields.length <= 8)
+        & (fields.code <= LARGEST_CODE)
         & (fields.spare == 0)
         & (fields.identifier <= most)
-        & past_zero(fields, count)
+        & past_zero(fields, remote)
 }
 
 fn largest_field(kind: Kind) -> u8
@@ -224,7 +221,7 @@ fn largest_field(kind: Kind) -> u8
 fn rest_zero(fields: Fields) -> bool
     ensures { λ r. ⌜ r ≡ zeros (recordOf fields) 2 14 ⌝ }
 {
-    (fields.length == 0) & (fields.spare == 0) & (fields.identifier == 0) & (fields.data == 0)
+    (fields.code == 0) & (fields.spare == 0) & (fields.identifier == 0) & (fields.data == 0)
 }
 
 // A record of a kind that has no more than one field.

@@ -9,16 +9,12 @@ use Rattle.records.proofs.is_sound_frame.Tie as tie
 largest-identifier-requires : tie.Need-largest-identifier-requires
 largest-identifier-requires c κs = search needs
 
-carried-by-requires : tie.Need-carried-by-requires
-carried-by-requires c κs = search needs
-
 past-zero-requires : tie.Need-past-zero-requires
 past-zero-requires c κs = search needs
 
 returns : tie.Need-returns
 unfolding recordOf
-returns c = simp (div-one, c .past-zero .ensures, c .before .before .before .before .before .carried-by .ensures, c .before .before .before .before .before .before .before .largest-identifier .ensures, four (c .before .before .before .before .before .before .before .before .before .args .fields .identifier) (omega arith))
+returns c = simp (div-one, c .past-zero .ensures, c .before .before .before .before .before .before .largest-identifier .ensures, four (c .before .before .before .before .before .before .before .before .args .fields .identifier) (omega arith))
 
 pub is-sound-frame-spec : {M : Type 1} → statement M
-is-sound-frame-spec =
-    tie.close (tie.spec largest-identifier-requires carried-by-requires past-zero-requires returns)
+is-sound-frame-spec = tie.close (tie.spec largest-identifier-requires past-zero-requires returns)

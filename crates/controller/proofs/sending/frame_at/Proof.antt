@@ -33,6 +33,12 @@ add-t15 c = search needs
 shared-slice-read-t17 : tie.Need-shared-slice-read-t17
 shared-slice-read-t17 c = search needs
 
+add-t18 : tie.Need-add-t18
+add-t18 c = search needs
+
+shared-slice-read-t20 : tie.Need-shared-slice-read-t20
+shared-slice-read-t20 c = search needs
+
 add-identifier-sent : tie.Need-add-identifier-sent
 add-identifier-sent c = search needs
 
@@ -51,20 +57,14 @@ add-identifier-sent-3 c = search needs
 shared-slice-read-identifier-sent-3 : tie.Need-shared-slice-read-identifier-sent-3
 shared-slice-read-identifier-sent-3 c = search needs
 
-add-length-sent : tie.Need-add-length-sent
-add-length-sent c = search needs
-
-shared-slice-read-length-sent : tie.Need-shared-slice-read-length-sent
-shared-slice-read-length-sent c = search needs
-
 add-t30 : tie.Need-add-t30
 add-t30 c = search needs
 
 shared-slice-read-t32 : tie.Need-shared-slice-read-t32
 shared-slice-read-t32 c = search needs
 
-length-sent-requires : tie.Need-length-sent-requires
-length-sent-requires c κs = search needs
+code-sent-requires : tie.Need-code-sent-requires
+code-sent-requires c κs = search needs
 
 add-identifier-sent-4 : tie.Need-add-identifier-sent-4
 add-identifier-sent-4 c = search needs
@@ -89,7 +89,7 @@ identifier-sent-requires c κs = search needs
 
 returns : tie.Need-returns
 unfolding frameAt
-returns c = simp (c .identifier-sent .ensures, c .before .before .before .before .length-sent .ensures)
+returns c = simp (c .identifier-sent .ensures, c .before .before .before .before .code-sent .ensures)
 
 pub frame-at-spec : {M : Type 1} → statement M
 frame-at-spec =
@@ -105,17 +105,17 @@ frame-at-spec =
     shared-slice-read-t9
     add-t15
     shared-slice-read-t17
+    add-t18
+    shared-slice-read-t20
     add-identifier-sent
     shared-slice-read-identifier-sent
     add-identifier-sent-2
     shared-slice-read-identifier-sent-2
     add-identifier-sent-3
     shared-slice-read-identifier-sent-3
-    add-length-sent
-    shared-slice-read-length-sent
     add-t30
     shared-slice-read-t32
-    length-sent-requires
+    code-sent-requires
     add-identifier-sent-4
     shared-slice-read-identifier-sent-4
     add-identifier-sent-5

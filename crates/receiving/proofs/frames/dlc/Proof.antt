@@ -6,7 +6,7 @@ choose-requires : tie.Need-choose-requires
 choose-requires c κs = search needs
 
 returns : tie.Need-returns
-returns c = simp (c .before .choose .ensures)
+returns c = simp (c .choose .ensures)
 
 pub dlc-spec : {M : Type 1} → statement M
 dlc-spec = tie.close (tie.spec choose-requires returns)

@@ -11,13 +11,13 @@ use Rattle.receiving.proofs.frames.fill.Statement.{statement}
 use Rattle.receiving.proofs.frames.fill.Tie as tie
 
 abbrev Inv-loop : tie.InvT-loop
-Inv-loop image₀ at frame count j₀ image j = (j ≤ 8) × (length image ≡ imageSize) × (image ≡ filled image₀ at frame j)
+Inv-loop image₀ at frame end j₀ image j = (j ≤ 8) × (length image ≡ imageSize) × (image ≡ filled image₀ at frame j)
 
 abbrev μ-loop : tie.MeasureT-loop
-μ-loop image₀ at frame count j₀ image j = 8 - j
+μ-loop image₀ at frame end j₀ image j = 8 - j
 
-carried-in-requires : tie.Need-carried-in-requires Inv-loop μ-loop
-carried-in-requires c κs = search needs
+data-end-requires : tie.Need-data-end-requires Inv-loop μ-loop
+data-end-requires c κs = search needs
 
 loop-holds : tie.Need-loop-holds Inv-loop μ-loop
 loop-holds c = (omega arith, c .before .before .pre .0, refl)
@@ -53,7 +53,7 @@ loop-less : tie.Need-loop-less Inv-loop μ-loop
 loop-less c = search needs
 
 loop-again : tie.Need-loop-again Inv-loop μ-loop
-loop-again c = (omega arith, simp length-set (c .before .before .before .before .loop .inv .1), simp (add-one, c .choose .ensures, c .before .before .before .before .before .carried-in .ensures, sym (c .before .before .before .before .loop .inv .2)))
+loop-again c = (omega arith, simp length-set (c .before .before .before .before .loop .inv .1), simp (add-one, c .choose .ensures, c .before .before .before .before .before .data-end .ensures (c .before .before .before .before .loop .j) (omega arith), sym (c .before .before .before .before .loop .inv .2)))
 
 same-length : tie.Need-same-length Inv-loop μ-loop
 same-length c = c .before .loop .inv .1 ∙ sym (c .before .before .before .before .pre .0)
@@ -67,7 +67,7 @@ fill-spec =
     (tie.spec
     Inv-loop
     μ-loop
-    carried-in-requires
+    data-end-requires
     loop-holds
     add-i
     cast-i

@@ -1,10 +1,11 @@
+use native.Mathlib.Omega.{arith}
 use Rattle.receiving.specs.Receiving.{keyOf}
 use borrow.Author.Needs.{needs}
 use Rattle.receiving.proofs.frames.key_of.Statement.{statement}
 use Rattle.receiving.proofs.frames.key_of.Tie as tie
 
-carried-in-requires : tie.Need-carried-in-requires
-carried-in-requires c κs = search needs
+data-end-requires : tie.Need-data-end-requires
+data-end-requires c κs = search needs
 
 element-copy-out-first : tie.Need-element-copy-out-first
 element-copy-out-first c = search needs
@@ -41,13 +42,13 @@ choose-requires-5 c κs = search needs
 
 returns : tie.Need-returns
 unfolding keyOf
-returns c = simp (c .choose5 .ensures, c .before .choose4 .ensures, c .before .before .choose3 .ensures, c .before .before .before .choose2 .ensures, c .before .before .before .before .eid0 .ensures, c .before .before .before .before .before .choose .ensures, c .before .before .before .before .before .before .eid8 .ensures, c .before .before .before .before .before .before .before .sidl .ensures, c .before .before .before .before .before .before .before .before .sidh .ensures, c .before .before .before .before .before .before .before .before .before .before .before .carried-in .ensures)
+returns c = simp (c .choose5 .ensures, c .before .choose4 .ensures, c .before .before .choose3 .ensures, c .before .before .before .choose2 .ensures, c .before .before .before .before .eid0 .ensures, c .before .before .before .before .before .choose .ensures, c .before .before .before .before .before .before .eid8 .ensures, c .before .before .before .before .before .before .before .sidl .ensures, c .before .before .before .before .before .before .before .before .sidh .ensures, c .before .before .before .before .before .before .before .before .before .before .before .data-end .ensures 0 (omega arith), c .before .before .before .before .before .before .before .before .before .before .before .data-end .ensures 1 (omega arith))
 
 pub key-of-spec : {M : Type 1} → statement M
 key-of-spec =
     tie.close
     (tie.spec
-    carried-in-requires
+    data-end-requires
     element-copy-out-first
     element-copy-out-second
     sidh-requires
