@@ -4,7 +4,7 @@
 #include "registers.h"
 
 static const struct case_group *const groups[] = {&marked_cases, &spi_cases, &reset_cases,
-                                                  &bus_cases};
+                                                  &bus_cases, &length_cases};
 
 size_t case_count(void)
 {
@@ -289,13 +289,14 @@ static void identifier_limits(struct script *s)
 static void data_past_length(struct script *s)
 {
     for (uint8_t code = 0; code <= LENGTH_CODE_MAX; code++)
-        for (uint8_t i = 0; i < 8; i++) {
+        for (uint8_t i = 0; i < DATA_BYTES_MAX; i++) {
             uint8_t record[RECORD_BYTES] = {KIND_FRAME, 0, code};
+            bool bad = i >= model_data_bytes(code);
             record[8 + i] = 1;
-            bool bad = i >= code;
-            sc_raw(AT, record, bad ? REFUSED_FIELD : REFUSED_NOT, bad ? 0 : RX_NOT_LISTENING);
-            record[1] = FRAME_REMOTE; /* a remote frame has a code and no data */
-            sc_raw(AT, record, REFUSED_FIELD, 0);
+            for (record[1] = 0; record[1] <= FRAME_EXTENDED; record[1]++)
+                sc_raw(AT, record, bad ? REFUSED_FIELD : REFUSED_NOT, bad ? 0 : RX_NOT_LISTENING);
+            for (; record[1] <= (FRAME_EXTENDED | FRAME_REMOTE); record[1]++)
+                sc_raw(AT, record, REFUSED_FIELD, 0); /* a remote frame has a code and no data */
         }
 }
 

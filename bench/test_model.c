@@ -265,6 +265,55 @@ static void test_unreached_counters(void)
     }
 }
 
+/* The chip once RXB0, by RXM 11, has taken a standard frame with the identifier 0. */
+static struct model with_rxb0(struct model m, bool remote, uint8_t code, const uint8_t *data)
+{
+    uint8_t *rxb0 = &m.reg[RXB0CTRL];
+    rxb0[0] = RXM | (remote ? RXRTR : 0);
+    rxb0[SIDL] = remote ? SRR : 0;
+    rxb0[DLC] = code;
+    for (unsigned i = 0; i < model_carried_bytes(remote, code); i++)
+        rxb0[D0 + i] = data[i];
+    m.reg[CANINTF] |= RX0IF;
+    return m;
+}
+
+/* Bits 7, 5 and 4 of a DLC byte are no part of the code, and the byte behind
+ * data byte 7 is no data, of whatever chip. */
+static void test_unreached_codes(void)
+{
+    for (unsigned dlc = 0; dlc < 256; dlc++) {
+        struct model m = chip_in(MODE_LOOPBACK);
+        const uint8_t *data = &m.reg[TXB2CTRL + D0];
+        m.flight = 2;
+        m.reg[RXB0CTRL] = RXM;
+        memset(&m.reg[TXB2CTRL + D0], 0x99, 9);
+        m.reg[TXB2CTRL + DLC] = (uint8_t)dlc;
+        struct model want = with_rxb0(m, dlc & RTR, dlc & 0x0F, data);
+        want.flight = NO_FLIGHT;
+        want.reg[CANINTF] |= TX2IF;
+        struct model after = step(m, KIND_FRAME_ENDS, END_SENT, REFUSED_NOT, RX_IN_RXB0);
+        EXPECT("the chip after any DLC byte was sent", 0, memcmp(&want, &after, sizeof want));
+    }
+}
+
+/* A ninth byte behind the record is not looked at and not stored. */
+static void test_no_ninth_byte(void)
+{
+    for (uint8_t code = 0; code <= LENGTH_CODE_MAX; code++)
+        for (uint8_t flags = 0; flags <= FRAME_REMOTE; flags += FRAME_REMOTE) {
+            uint8_t record[RECORD_BYTES + 8] = {KIND_FRAME, flags, code}, refusal, answer;
+            struct model m = chip_in(MODE_NORMAL);
+            m.reg[RXB0CTRL] = RXM;
+            memset(record + RECORD_BYTES, 0x99, 8);
+            memset(record + 8, 0x77, model_carried_bytes(flags, code));
+            struct model want = with_rxb0(m, flags, code, record + 8);
+            model_step(&m, record, &refusal, &answer);
+            EXPECT("refusal", REFUSED_NOT, refusal);
+            EXPECT("the chip after any code was heard", 0, memcmp(&want, &m, sizeof want));
+        }
+}
+
 /* What a chip after RESET has other than the rule says, or NULL. */
 static const char *broken_reset(const struct model *before, const struct model *after)
 {
@@ -1001,7 +1050,9 @@ int main(int argc, char **argv)
     test_unreached_abort();
     test_unreached_flights();
     test_unreached_counters();
+    test_unreached_codes();
     test_unreached_resets(seed);
+    test_no_ninth_byte();
     test_data_bytes();
     test_power_on();
     test_held_and_read();
