@@ -52,37 +52,78 @@ static uint8_t some_data(struct gen *g)
     return chance(g, 32) ? any_byte(g) : PICK(g, values);
 }
 
+/* Every length code; 0, 1 and 2 more often, where the filters see none, one
+ * and two data bytes. */
+static uint8_t some_code(struct gen *g)
+{
+    return (uint8_t)below(g, chance(g, 50) ? 3 : LENGTH_CODE_MAX + 1);
+}
+
 static void id_bytes(struct gen *g, uint8_t out[4])
 {
     uint16_t sid = some_sid(g);
     uint32_t eid = some_eid(g);
     out[RXF_SIDH] = (uint8_t)(sid >> 3);
-    out[RXF_SIDL] = (uint8_t)(sid << 5 | (chance(g, 100) ? IDE : 0) | eid >> 16);
+    out[RXF_SIDL] = (uint8_t)(sid << 5 | (chance(g, 128) ? IDE : 0) | eid >> 16);
     out[RXF_EID8] = (uint8_t)(eid >> 8);
     out[RXF_EID0] = (uint8_t)eid;
+}
+
+/* A frame as SIDH, SIDL, EID8, EID0 and eight data bytes. Most are aimed at a
+ * filter: they have its identifier, and its EID bytes as data bytes 0 and 1,
+ * often one of the two alone. */
+static void message_bytes(struct gen *g, uint8_t out[4 + DATA_BYTES_MAX])
+{
+    static const uint8_t filter_at[6] = {RXF0SIDH, RXF1SIDH, RXF2SIDH,
+                                         RXF3SIDH, RXF4SIDH, RXF5SIDH};
+    const uint8_t *filter = &g->chip.reg[PICK(g, filter_at)];
+    if (!(filter[RXF_SIDL] & IDE)) /* extended ones are fewer */
+        filter = &g->chip.reg[PICK(g, filter_at)];
+    for (unsigned i = 0; i < DATA_BYTES_MAX; i++)
+        out[4 + i] = some_data(g);
+    if (chance(g, 80)) {
+        id_bytes(g, out);
+        return;
+    }
+    memcpy(out, filter, 4);
+    for (unsigned i = 0; i < 2; i++)
+        if (chance(g, 150))
+            out[4 + i] = filter[RXF_EID8 + i];
 }
 
 /* ---- bus events ---- */
 
 static void make_frame(struct gen *g, uint8_t *r)
 {
-    uint32_t id = some_sid(g);
+    uint8_t bytes[4 + DATA_BYTES_MAX];
+    message_bytes(g, bytes);
+    uint32_t id = (uint32_t)(bytes[RXF_SIDH] << 3 | bytes[RXF_SIDL] >> 5);
     r[0] = KIND_FRAME;
-    r[1] = chance(g, 100) ? FRAME_EXTENDED : 0;
+    r[1] = bytes[RXF_SIDL] & IDE ? FRAME_EXTENDED : 0;
     if (r[1])
-        id = id << 18 | some_eid(g);
-    if (chance(g, 50))
+        id = id << 18 | (uint32_t)(bytes[RXF_SIDL] & EID_HIGH) << 16 |
+             (uint32_t)(bytes[RXF_EID8] << 8 | bytes[RXF_EID0]);
+    if (chance(g, 60))
         r[1] |= FRAME_REMOTE;
-    r[2] = (uint8_t)below(g, 9);
+    r[2] = some_code(g);
     for (unsigned i = 0; i < 4; i++)
         r[4 + i] = (uint8_t)(id >> (24 - 8 * i));
-    for (unsigned i = 0; i < r[2] && !(r[1] & FRAME_REMOTE); i++)
-        r[8 + i] = some_data(g);
+    memcpy(r + 8, bytes + 4, model_carried_bytes(r[1] & FRAME_REMOTE, r[2]));
 }
 
 static bool any_txreq(const struct model *m)
 {
     return ((m->reg[TXB0CTRL] | m->reg[TXB1CTRL] | m->reg[TXB2CTRL]) & TXREQ) != 0;
+}
+
+/* Bus idle where a buffer waits; in Loopback little else happens. */
+static unsigned idle_chance(const struct model *m)
+{
+    if (!any_txreq(m))
+        return 16;
+    if (m->mode == MODE_LOOPBACK)
+        return 220;
+    return model_bus_off(m) ? 16 : 140;
 }
 
 static void make_event(struct gen *g, uint8_t *r)
@@ -94,8 +135,7 @@ static void make_event(struct gen *g, uint8_t *r)
             r[1] = chance(g, 60) ? END_LOST : END_ERROR;
     } else if (model_bus_off(m) && chance(g, 12)) {
         r[0] = KIND_RECOVERY;
-    } else if (any_txreq(m) && (!model_bus_off(m) || m->mode == MODE_LOOPBACK) ? chance(g, 140)
-                                                                             : chance(g, 16)) {
+    } else if (chance(g, idle_chance(m))) {
         r[0] = KIND_BUS_IDLE;
     } else if (chance(g, m->mode == MODE_NORMAL ? g->mix.failure : 12)) {
         r[0] = KIND_RECEIVE_ERROR;
@@ -109,26 +149,39 @@ static void make_event(struct gen *g, uint8_t *r)
 
 /* ---- records that are refused ---- */
 
+/* One byte past the data of a code, mostly the first. */
+static void add_data_past(struct gen *g, uint8_t *r)
+{
+    r[1] &= (uint8_t)~FRAME_REMOTE;
+    r[2] = (uint8_t)below(g, DATA_BYTES_MAX);
+    memset(r + 8, 0, DATA_BYTES_MAX);
+    unsigned past = model_data_bytes(r[2]);
+    r[8 + (chance(g, 150) ? past : past + below(g, DATA_BYTES_MAX - past))] = 1;
+}
+
 static void make_bad_frame(struct gen *g, uint8_t *r)
 {
     make_frame(g, r);
-    switch (below(g, 4)) {
+    switch (below(g, 6)) {
     case 0: /* one above the highest identifier */
         memset(r + 4, 0, 4);
         r[r[1] & FRAME_EXTENDED ? 4 : 6] = r[1] & FRAME_EXTENDED ? 0x20 : 0x08;
         break;
     case 1:
         r[1] |= FRAME_REMOTE;
-        r[8 + below(g, 8)] |= 1;
+        r[8 + below(g, DATA_BYTES_MAX)] |= 1;
         break;
     case 2:
         r[1] = (uint8_t)(4 + below(g, 252));
         break;
+    case 3:
+        add_data_past(g, r);
+        break;
+    case 4:
+        r[2] = LENGTH_CODE_MAX + 1;
+        break;
     default:
-        if (r[2] < 8)
-            r[15] = 1;
-        else
-            r[2] = LENGTH_CODE_MAX + 1;
+        r[2] = (uint8_t)(LENGTH_CODE_MAX + 2 + below(g, 254 - LENGTH_CODE_MAX));
         break;
     }
 }
@@ -284,7 +337,8 @@ static void plan_filters(struct gen *g)
     for (unsigned i = 0; i < count; i++) {
         static const uint8_t masks[][4] = {{0, 0, 0, 0},          {0xFF, 0xE3, 0xFF, 0xFF},
                                            {0xFF, 0xE0, 0, 0},    {0xFF, 0xE3, 0, 0},
-                                           {0x01, 0x20, 0x01, 0}, {0xFF, 0xE3, 0xFF, 0}};
+                                           {0x01, 0x20, 0x01, 0}, {0xFF, 0xE3, 0xFF, 0},
+                                           {0, 0, 0xFF, 0xFF}};
         uint8_t bytes[4];
         id_bytes(g, bytes);
         const uint8_t *from = start == RXM0SIDH ? PICK(g, masks) : bytes;
@@ -351,28 +405,37 @@ static void add_load_to_limit(struct gen *g, unsigned which)
     }
 }
 
+/* Of a TX buffer; bits 7, 5 and 4 take no write. */
+static uint8_t some_dlc(struct gen *g)
+{
+    return (uint8_t)(some_code(g) | (chance(g, 110) ? RTR : 0) | (chance(g, 20) ? 0xB0 : 0));
+}
+
 static void plan_load(struct gen *g)
 {
-    unsigned which = below(g, 6);
+    unsigned which = 2 * below(g, 3) + (chance(g, 100) ? 1 : 0);
+    uint8_t bytes[4 + DATA_BYTES_MAX];
+    message_bytes(g, bytes);
     add(g, (uint8_t)(SPI_LOAD_TX + which));
     if (which % 2 == 0) {
-        uint8_t bytes[4];
-        id_bytes(g, bytes);
         for (unsigned j = 0; j < 4; j++)
             add(g, bytes[j]);
-        add(g, (uint8_t)(below(g, 16) | (chance(g, 60) ? RTR : 0) | (chance(g, 20) ? 0xB0 : 0)));
+        add(g, some_dlc(g));
+        g->loaded |= (uint8_t)(1u << which / 2);
     }
     if (chance(g, 50)) {
         add_load_to_limit(g, which);
         return;
     }
-    for (unsigned i = below(g, 9); i > 0; i--)
-        add(g, some_data(g));
+    for (unsigned i = 0, count = below(g, DATA_BYTES_MAX + 1); i < count; i++)
+        add(g, bytes[4 + i]);
 }
 
 static void plan_rts(struct gen *g)
 {
-    add(g, (uint8_t)(SPI_RTS | below(g, 8)));
+    uint8_t buffers = g->loaded && chance(g, 220) ? g->loaded : (uint8_t)below(g, 8);
+    add(g, SPI_RTS | buffers);
+    g->loaded &= (uint8_t)~buffers;
 }
 
 static void plan_txctrl(struct gen *g)
@@ -571,8 +634,10 @@ static void weigh_plans(const struct gen *g, unsigned weight[PLANS])
         weight[PLAN_FILTERS] += 30;
     if ((m->mode == MODE_NORMAL || m->mode == MODE_LOOPBACK) && !any_txreq(m))
         weight[PLAN_RTS] += 15;
+    if (m->mode == MODE_LOOPBACK && !any_txreq(m)) /* a new message for each frame */
+        weight[g->loaded ? PLAN_RTS : PLAN_LOAD] += 100;
     if (m->reg[CANINTF] & (RX0IF | RX1IF))
-        weight[PLAN_READ_RX] += 15;
+        weight[PLAN_READ_RX] += m->mode == MODE_LOOPBACK ? 40 : 15;
     if (m->flight != NO_FLIGHT)
         weight[PLAN_IN_FLIGHT] = 30;
     if (model_bus_off(m) && (m->mode == MODE_NORMAL || m->mode == MODE_SLEEP))
@@ -652,6 +717,8 @@ static unsigned event_chance(const struct gen *g, unsigned usual)
         return usual / 3;
     if (near_limit(m))
         return usual / 2;
+    if (m->mode == MODE_LOOPBACK && (m->reg[CANINTF] & (RX0IF | RX1IF)))
+        return usual / 4;
     if (m->flight != NO_FLIGHT || (m->mode == MODE_NORMAL && any_txreq(m)))
         return usual;
     if (m->mode == MODE_CONFIGURATION || (m->mode == MODE_LOOPBACK && !any_txreq(m)))

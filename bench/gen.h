@@ -41,6 +41,7 @@ struct gen {
     unsigned planned;
     unsigned sent;
     uint8_t changed; /* address written last, worth a look */
+    uint8_t loaded;  /* TX buffers (bit 0 is TXB0) with a message not yet asked to go */
     unsigned looks;  /* sessions yet to look at what RESET left */
 };
 
