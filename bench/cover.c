@@ -14,6 +14,9 @@ const uint8_t cover_buffer_code[COVER_BUFFER_CODES] = {0x90, 0x92, 0x94, 0x96, 0
                                                        0x41, 0x42, 0x43, 0x44, 0x45};
 const uint8_t cover_length[COVER_LENGTHS] = {8, 9, 13, 14};
 
+const char *const cover_class_name[COVER_CLASSES] = {"code 0", "code 1", "code 2 to 8",
+                                                     "code 9 to 15", "a remote frame"};
+
 static void hit(struct cover *c, unsigned point)
 {
     c->count[point]++;
@@ -168,6 +171,83 @@ static void flight_after_reset(struct cover *c, const uint8_t *r, uint8_t refusa
     c->reset_flight = false;
 }
 
+/* ---- length codes ---- */
+
+struct given {
+    uint8_t refusal;
+    uint8_t answer;
+};
+
+static struct given step_gives(struct model m, const uint8_t *r)
+{
+    struct given given;
+    model_step(&m, r, &given.refusal, &given.answer);
+    return given;
+}
+
+/* Not refused for its fields once byte 2 has this code, or the data is gone. */
+static bool mended(const struct model *m, const uint8_t *r, uint8_t code, bool with_data)
+{
+    uint8_t record[RECORD_BYTES] = {0};
+    memcpy(record, r, with_data ? RECORD_BYTES : 8);
+    record[2] = code;
+    return step_gives(*m, record).refusal != REFUSED_FIELD;
+}
+
+/* Frames that are refused for one thing alone. */
+static void damaged_frame(struct cover *c, const struct model *m, const uint8_t *r)
+{
+    if (r[2] > LENGTH_CODE_MAX)
+        hit_if(c, mended(m, r, LENGTH_CODE_MAX, true),
+               r[2] == LENGTH_CODE_MAX + 1 ? COVER_REFUSED_CODE_16 : COVER_REFUSED_CODE_ABOVE);
+    else
+        hit_if(c, mended(m, r, r[2], false),
+               r[1] & FRAME_REMOTE ? COVER_REFUSED_DATA_REMOTE : COVER_REFUSED_DATA_PAST);
+}
+
+static enum cover_class class_of(bool remote, uint8_t code)
+{
+    return remote      ? COVER_REMOTE
+           : code == 0 ? COVER_CODE_0
+           : code == 1 ? COVER_CODE_1
+           : code <= 8 ? COVER_CODE_2_TO_8
+                       : COVER_CODE_9_TO_15;
+}
+
+/* The filters see no data byte of this number. */
+static void hide(struct model *m, unsigned byte)
+{
+    m->reg[RXM0SIDH + RXF_EID8 + byte] = 0;
+    m->reg[RXM1SIDH + RXF_EID8 + byte] = 0;
+}
+
+/* A standard frame, from the bus or sent in Loopback: its answer, had the
+ * filters seen an absent data byte or not seen a present one. */
+static void filtered(struct cover *c, const struct model *m, const uint8_t *r, uint8_t answer)
+{
+    bool own = r[0] == KIND_FRAME_ENDS;
+    unsigned buffer = TXB0CTRL + 0x10 * m->flight;
+    bool extended = own ? m->reg[buffer + SIDL] & IDE : r[1] & FRAME_EXTENDED;
+    bool remote = own ? m->reg[buffer + DLC] & RTR : r[1] & FRAME_REMOTE;
+    uint8_t code = own ? m->reg[buffer + DLC] & DLC_CODE : r[2];
+    unsigned bytes = model_carried_bytes(remote, code);
+    for (unsigned byte = 0; byte < 2 && !extended; byte++) {
+        struct model other = *m;
+        uint8_t record[RECORD_BYTES];
+        memcpy(record, r, RECORD_BYTES);
+        if (byte < bytes) {
+            hide(&other, byte);
+        } else {
+            *(own ? &other.reg[buffer + DLC] : &record[2]) = (uint8_t)(byte + 1);
+            record[1] = 0; /* no remote frame */
+            if (bytes < byte)
+                hide(&other, bytes); /* absent too */
+        }
+        if (answer != step_gives(other, record).answer)
+            c->filtered[byte][class_of(remote, code)]++;
+    }
+}
+
 /* ---- single records ---- */
 
 static void refused(struct cover *c, const struct model *m, const uint8_t *r, uint8_t refusal)
@@ -183,6 +263,8 @@ static void refused(struct cover *c, const struct model *m, const uint8_t *r, ui
         hit(c, r[0] == KIND_SELECT_LOW ? COVER_REFUSAL_1_LOW : COVER_REFUSAL_1_HIGH);
         break;
     case REFUSED_FIELD:
+        if (r[0] == KIND_FRAME)
+            damaged_frame(c, m, r);
         hit(c, r[0] >= KINDS        ? COVER_REFUSAL_2_KIND
                : r[0] == KIND_FRAME ? COVER_REFUSAL_2_FRAME
                : r[0] > KIND_FRAME  ? COVER_REFUSAL_2_EVENT
@@ -212,10 +294,11 @@ static void lost(struct cover *c, const struct model *before, const struct model
         hit(c, COVER_LOST_RXB1);
 }
 
-static void stored(struct cover *c, const struct model *before, const struct model *after,
-                   uint8_t ctrl)
+static void stored(struct cover *c, const struct model *before, const uint8_t *r,
+                   const struct model *after, uint8_t ctrl)
 {
     const uint8_t *b = &after->reg[ctrl];
+    bool own = r[0] == KIND_FRAME_ENDS, remote = b[0] & RXRTR, extended = b[SIDL] & IDE;
     bool rxm = (b[0] & RXM) == RXM;
     unsigned number = b[0] & (ctrl == RXB0CTRL ? FILHIT0 : FILHIT);
     hit_if(c, rxm && ctrl == RXB0CTRL, COVER_RXM_RXB0);
@@ -225,20 +308,23 @@ static void stored(struct cover *c, const struct model *before, const struct mod
            COVER_ROLLED);
     hit_if(c, b[SIDL] & SRR, COVER_STORED_STANDARD_REMOTE);
     hit_if(c, b[DLC] & RTR, COVER_STORED_EXTENDED_REMOTE);
-    hit_if(c, (b[SIDL] & IDE) && !(b[0] & RXRTR), COVER_STORED_EXTENDED);
+    hit_if(c, extended && !remote, COVER_STORED_EXTENDED);
+    c->stored[own][remote][extended][b[DLC] & DLC_CODE]++;
 }
 
-static void received(struct cover *c, const struct model *before, uint8_t answer,
+static void received(struct cover *c, const struct model *before, const uint8_t *r, uint8_t answer,
                      const struct model *after)
 {
+    if (answer <= RX_LOST)
+        filtered(c, before, r, answer);
     if (answer == RX_IN_RXB0 || answer == RX_IN_RXB1)
         filter_after_reset(c, after, answer);
     if (answer == RX_LOST)
         lost(c, before, after);
     if (answer == RX_IN_RXB0)
-        stored(c, before, after, RXB0CTRL);
+        stored(c, before, r, after, RXB0CTRL);
     if (answer == RX_IN_RXB1)
-        stored(c, before, after, RXB1CTRL);
+        stored(c, before, r, after, RXB1CTRL);
 }
 
 static void idle(struct cover *c, const struct model *m, uint8_t answer)
@@ -272,11 +358,10 @@ static void own_end(struct cover *c, const struct model *before, const uint8_t *
     const uint8_t *buffer = &before->reg[TXB0CTRL + 0x10 * before->flight];
     if (before->mode == MODE_LOOPBACK) {
         hit(c, COVER_LOOP_0 + answer);
-        hit_if(c, (buffer[DLC] & DLC_CODE) > 8, COVER_LONG_DLC);
         hit_if(c, c->in_hand[TXB0CTRL + 0x10 * before->flight + SIDH] &&
                       (answer == RX_IN_RXB0 || answer == RX_IN_RXB1),
                COVER_RESET_SENT);
-        received(c, before, answer, after);
+        received(c, before, r, answer, after);
     } else {
         hit(c, COVER_SENT_NORMAL + r[1]);
     }
@@ -454,7 +539,7 @@ void cover_step(struct cover *c, const struct model *before, const uint8_t *reco
     case KIND_FRAME:
         hit(c, COVER_FRAME_0 + answer);
         hit_if(c, answer == RX_WOKE && model_bus_off(before), COVER_BUS_OFF_WOKE);
-        received(c, before, answer, after);
+        received(c, before, record, answer, after);
         break;
     case KIND_BUS_IDLE:
         idle(c, before, answer);

@@ -17,6 +17,10 @@
     X(REFUSAL_2_KIND, "unknown kind")                                   \
     X(REFUSAL_2_SPI, "damaged select or exchange")                      \
     X(REFUSAL_2_FRAME, "damaged frame")                                 \
+    X(REFUSED_CODE_16, "frame refused for its length code 16 alone")    \
+    X(REFUSED_CODE_ABOVE, "frame refused for a higher code alone")      \
+    X(REFUSED_DATA_PAST, "frame refused for data past its code alone")  \
+    X(REFUSED_DATA_REMOTE, "remote frame refused for data alone")       \
     X(REFUSAL_2_EVENT, "other damaged event")                           \
     X(REFUSAL_3_FRAME, "frame during a flight")                         \
     X(REFUSAL_3_IDLE, "bus idle during a flight")                       \
@@ -64,7 +68,6 @@
     X(END_OSM, "failed under OSM")                                      \
     X(END_ABAT, "failed under ABAT")                                    \
     X(END_NO_RETRY, "failed after TXREQ was cleared")                   \
-    X(LONG_DLC, "length code 9 to 15 sent in Loopback")                 \
     X(ABAT_CLEARS, "ABAT cleared a TXREQ")                              \
     X(ABAT_BARS, "RTS under ABAT")                                      \
     X(MODE_0, "Normal entered")                                         \
@@ -161,6 +164,18 @@ enum { COVER_BUFFER_CODES = 10, COVER_LENGTHS = 4 };
 extern const uint8_t cover_buffer_code[COVER_BUFFER_CODES];
 extern const uint8_t cover_length[COVER_LENGTHS];
 
+/* How many data bytes the filters see, by the length code. */
+enum cover_class {
+    COVER_CODE_0,
+    COVER_CODE_1,
+    COVER_CODE_2_TO_8,
+    COVER_CODE_9_TO_15,
+    COVER_REMOTE,
+    COVER_CLASSES
+};
+
+extern const char *const cover_class_name[COVER_CLASSES];
+
 /* RESET by address, CANCTRL at 0Fh alone. The bits that a log can make other
  * than RESET does; bits of the counters are not told apart. */
 enum { COVER_ADDRESSES = 128 };
@@ -173,6 +188,12 @@ struct cover {
     /* Sessions of exactly this length with events inside, RXnIF set at select
      * low, or TXREQ clear and no flight. */
     unsigned long buffer_sessions[COVER_BUFFER_CODES][COVER_LENGTHS];
+    /* Frames by what the receive buffer then says: from the bus or sent in
+     * Loopback, data or remote, standard or extended, length code. */
+    unsigned long stored[2][2][2][LENGTH_CODE_MAX + 1];
+    /* Standard frames that would be answered otherwise if the filters saw the
+     * absent data byte 0 or 1, or did not see the present one. */
+    unsigned long filtered[2][COVER_CLASSES];
     unsigned long resets;
     unsigned long reset_bit[COVER_ADDRESSES][8]; /* met other than RESET would make it */
     unsigned long reset_read[COVER_ADDRESSES];   /* such a byte read while still in hand */

@@ -2,6 +2,7 @@
  * Tests of the second model by itself: the fixed cases, the whole-log rule,
  * chips no log can reach, the tidied list, and random logs.
  */
+#include <limits.h>
 #include <stdarg.h>
 #include <stdio.h>
 #include <stdlib.h>
@@ -927,6 +928,9 @@ static const char *broken_fact(const struct model *m)
         return "RXB0CTRL bit 1 copies bit 2";
     if (m->tec > TEC_STOP || m->rec > REC_STOP)
         return "the counters stop";
+    for (unsigned ctrl = TXB0CTRL; ctrl <= RXB1CTRL; ctrl += 0x10)
+        if (m->reg[ctrl + DLC] & ~(RTR | DLC_CODE))
+            return "a DLC byte is a length code and RTR";
     if (model_int_low(m) != ((model_holds(m, CANINTE) & model_holds(m, CANINTF)) != 0))
         return "INT is low exactly when CANINTE and CANINTF share a bit";
     return NULL;
@@ -1005,8 +1009,54 @@ static void check_resets(const struct cover *c, bool show)
     }
 }
 
+/* The sort of stored frames that was met least often. */
+struct rarest {
+    unsigned long count;
+    char sort[64];
+};
+
+/* Frames stored by every length code, from the bus and in Loopback. */
+static struct rarest check_stored_codes(const struct cover *c, bool show)
+{
+    enum { CODES = LENGTH_CODE_MAX + 1 };
+    struct rarest rarest = {.count = ULONG_MAX};
+    for (unsigned i = 0; i < 8 * CODES; i++) {
+        unsigned code = i % CODES, form = i / CODES;
+        unsigned own = form >> 2, remote = form >> 1 & 1, extended = form & 1;
+        unsigned long count = c->stored[own][remote][extended][code];
+        char sort[64];
+        snprintf(sort, sizeof sort, "%s, %s, %s, code %u", own ? "Loopback" : "bus",
+                 remote ? "remote" : "data", extended ? "extended" : "standard", code);
+        if (count == 0)
+            fail(__FILE__, __LINE__, "random logs: expected a stored frame (%s), got none", sort);
+        if (show)
+            printf("%10lu  stored: %s\n", count, sort);
+        if (count < rarest.count) {
+            rarest.count = count;
+            memcpy(rarest.sort, sort, sizeof sort);
+        }
+    }
+    return rarest;
+}
+
+/* Frames whose answer data byte 0 or 1 decided, by being there or not. */
+static void check_filtered_codes(const struct cover *c, bool show)
+{
+    for (unsigned byte = 0; byte < 2; byte++)
+        for (unsigned i = 0; i < COVER_CLASSES; i++) {
+            if (c->filtered[byte][i] == 0)
+                fail(__FILE__, __LINE__,
+                     "random logs: expected data byte %u to decide for %s, got none", byte,
+                     cover_class_name[i]);
+            if (show)
+                printf("%10lu  data byte %u decides for %s\n", c->filtered[byte][i], byte,
+                       cover_class_name[i]);
+        }
+}
+
 /* Random logs are worth something only if they get everywhere. */
-static void test_coverage(uint64_t seeds, const struct tidy_tally *tally, bool show)
+static void test_coverage(uint64_t seeds, const struct tidy_tally *tally, struct rarest *rarest,
+                          bool show)
 {
     enum { RECORDS = 3000, LOGS = 300 };
     struct cover c = {0};
@@ -1025,6 +1075,8 @@ static void test_coverage(uint64_t seeds, const struct tidy_tally *tally, bool s
     }
     check_buffer_sessions(&c, show);
     check_resets(&c, show);
+    check_filtered_codes(&c, show);
+    *rarest = check_stored_codes(&c, show);
     for (unsigned i = 0; i < TIDY_COMMANDS; i++) {
         bool can_be_cut = i != TIDY_EMPTY && i != TIDY_RESET && i != TIDY_RTS && i != TIDY_UNKNOWN;
         if (tally->with_events[i] == 0 || (can_be_cut && tally->cut_with_events[i] == 0))
@@ -1043,6 +1095,7 @@ int main(int argc, char **argv)
     uint64_t seed = argc > 1 ? strtoull(argv[1], NULL, 0) : 2515;
     bool show = argc > 2 && strcmp(argv[2], "show") == 0;
     struct tidy_tally tally = {0};
+    struct rarest rarest;
     printf("model tests, seed %llu\n", (unsigned long long)seed);
     test_fixed_cases();
     test_whole_log_rule();
@@ -1064,12 +1117,14 @@ int main(int argc, char **argv)
     test_generator(seed);
     test_every_step(seed);
     test_demand_3(seed, &tally);
-    test_coverage(seed, &tally, show);
+    test_coverage(seed, &tally, &rarest, show);
     if (failures) {
         printf("%u failures\n", failures);
         return 1;
     }
     printf("%zu fixed cases, %u tidied lists (event moved: %u) and the random logs agree\n",
            case_count(), tidied_moved + tidied_stayed, tidied_moved);
+    printf("frames stored by source, form and length code: the rarest %lu times (%s)\n",
+           rarest.count, rarest.sort);
     return 0;
 }
