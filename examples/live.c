@@ -228,7 +228,8 @@ static void answer(const uint8_t message[MESSAGE])
     exchange((uint8_t)(message[SIDH] + (0x200 >> 3)));
     for (unsigned i = SIDL; i < D0; i++)
         exchange(message[i]);
-    for (unsigned i = D0; i < D0 + (message[DLC] & 0x0Fu); i++)
+    /* A length code goes up to 15, the data bytes end with the message. */
+    for (unsigned i = D0; i < MESSAGE && i < D0 + (message[DLC] & 0x0Fu); i++)
         exchange((uint8_t)~message[i]);
     select_high();
     select_low();

@@ -262,7 +262,7 @@ shows "$work/busy.log" \
     'INT            low' 'select         low, an instruction is open' 'in flight      TXB1' \
     'CANCTRL   4Fh  REQOP 2 OSM CLKEN CLKPRE 3' 'CANSTAT   0Ch  OPMOD 0 ICOD 6' \
     'CANINTE   03h  RX1IE RX0IE' 'CANINTF   01h  RX0IF' 'TXB1CTRL  08h  TXREQ TXP 0' \
-    '               standard 123h, RTR, DLC 3, data 11 22 33 [00 00 00 00 00]' \
+    '               standard 123h, RTR, DLC 3, data [11 22 33 00 00 00 00 00]' \
     'RXB0CTRL  01h  RXM 0 FILHIT0' \
     '               extended 12375678h, DLC 2, data A1 A2 [00 00 00 00 00 00]' \
     'RXM0           standard 7FFh, data bytes FFh 0Fh; extended 1FFFFF0Fh' \
@@ -281,6 +281,31 @@ shows "$work/bus_off.log" 'TEC            256, shown as 255' 'REC            0' 
     'EFLG      35h  TXBO TXEP TXWAR EWARN' 'CANINTF   A0h  MERRF ERRIF' \
     'TXB0CTRL  18h  TXERR TXREQ TXP 0' 'in flight      none' 'INT            high'
 say "chip of a log that ends in flight with a request that waits, and of one in bus-off"
+{
+    session 02 60 64                   # RXB0 takes any frame; BUKT
+    session 02 0F 07                   # Normal
+    record 03 00 09 00 00 00 01 23 A1 A2 A3 A4 A5 A6 A7 A8
+    record 03 00 10                    # refused: there is no length code 16
+    session 40 91 A8 56 78 4F 11 22    # TXB0: extended 12345678h, remote, length code 15
+    session 02 0F 47                   # Loopback
+    session 81
+    record 04
+    record 05                          # rolls over into RXB1
+} >"$work/long_codes.log"
+shows "$work/long_codes.log" 'records        32, refused 1' \
+    '               standard 123h, DLC 9, data A1 A2 A3 A4 A5 A6 A7 A8' \
+    '               extended 12345678h, RTR, DLC 15, data [11 22 00 00 00 00 00 00]' \
+    '               extended 12345678h, RTR, DLC 15, data [00 00 00 00 00 00 00 00]'
+{
+    session 02 60 64
+    session 02 0F 07
+    record 03 00 08 00 00 00 01 23 A1 A2 A3 A4 A5 A6 A7 A8
+    session 02 2C 00                   # CANINTF: RXB0 is free again
+    record 03 02 09 00 00 00 01 23     # remote: the old data stay
+} >"$work/remote.log"
+shows "$work/remote.log" 'records        17, refused 0' \
+    '               standard 123h, SRR, DLC 9, data [A1 A2 A3 A4 A5 A6 A7 A8]'
+say "chip of logs with length codes above 8"
 
 # ---- arguments ----
 

@@ -172,12 +172,12 @@ static void print_identifier(const struct identifier *id)
         printf("standard %03Xh", id->sid);
 }
 
-/* Data bytes past the length are in brackets. */
-static void print_data(const struct ran *ran, unsigned address, unsigned length)
+/* Data bytes past those carried are in brackets; with a length code above 8 there are none. */
+static void print_data(const struct ran *ran, unsigned address, unsigned carried)
 {
     for (unsigned i = 0; i < 8; i++)
-        printf("%s%s%02X", i > 0 ? " " : "", i == length ? "[" : "", held(ran, address + i));
-    puts(length < 8 ? "]" : "");
+        printf("%s%s%02X", i > 0 ? " " : "", i == carried ? "[" : "", held(ran, address + i));
+    puts(carried < 8 ? "]" : "");
 }
 
 /* The message of a buffer whose SIDH is at this address. */
@@ -185,11 +185,12 @@ static void print_message(const struct ran *ran, unsigned address)
 {
     struct identifier id = identifier_at(ran, address);
     uint8_t dlc = held(ran, address + 4);
+    bool srr = id.sidl & 0x10, rtr = dlc & 0x40;
+    unsigned code = dlc & 0x0F;
     printf("%15s", "");
     print_identifier(&id);
-    printf("%s%s, DLC %u, data ", id.sidl & 0x10 ? ", SRR" : "", dlc & 0x40 ? ", RTR" : "",
-           dlc & 0x0Fu);
-    print_data(ran, address + 5, dlc & 0x0F);
+    printf("%s%s, DLC %u, data ", srr ? ", SRR" : "", rtr ? ", RTR" : "", code);
+    print_data(ran, address + 5, srr || rtr ? 0 : code);
 }
 
 static void print_filter(const struct ran *ran, unsigned n, unsigned address)
@@ -314,7 +315,7 @@ const struct subcommand chip_command = {
     .help = "usage: mcp2515 chip [--] LOG\n\n"
             "Runs LOG (- is standard input) from power-on and prints what the chip holds then:\n"
             "mode, INT, error counters, control registers with the bits that are set, buffers,\n"
-            "masks and filters. Data bytes past the length are in brackets.\n\n"
+            "masks and filters. Data bytes that a message does not carry are in brackets.\n\n"
             "Exit status: 0, or 2 for trouble. A log that ends inside a record (refusal 6) or\n"
             "has more than 65,535 (refusal 8) is trouble: it is not run and nothing is printed.\n",
     .run = run,
