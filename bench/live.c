@@ -43,6 +43,7 @@ static unsigned long long resets[2];                      /* [1]: on random chip
 static unsigned long long int_lines[2], modes[MODES], opens[OPEN_SPENT + 1];
 static unsigned long long waits, flights, bus_offs, hidden, addresses, wrong_versions,
     wrong_lengths, random_chips, pieces, parts[REFUSALS];
+static unsigned long long refused_parts[2]; /* each record run refused; [1]: random chips */
 
 _Noreturn void live_stop(const char *what)
 {
@@ -122,6 +123,8 @@ static void demand_all(void)
     demand("part of a text that goes on", parts[0]);
     demand("part of a text that ends in refusal 6", parts[REFUSED_RAGGED]);
     demand("part of a text that ends in refusal 8", parts[REFUSED_TOO_LONG]);
+    demand("part of a text, every record refused", refused_parts[0]);
+    demand("the same of a random chip", refused_parts[1]);
 }
 
 static unsigned below(unsigned n)
@@ -314,50 +317,61 @@ static void pieces_of_log(uint8_t *log)
 
 /* ---- as text ---- */
 
-/* The lines that expected.c would print from here on; how many bytes. */
-static size_t model_text(struct model *m, unsigned long number, const uint8_t *part,
-                         size_t part_len, char *text, unsigned *end)
+/* What the model makes of a part. */
+struct told {
+    size_t bytes;   /* of the text */
+    unsigned end;   /* the refusal that ended the text, or 0 */
+    size_t run;     /* records; a short one and one past the limit are not run */
+    size_t refused; /* of these, by the chip */
+};
+
+/* The lines that expected.c would print from here on. */
+static struct told model_text(struct model *m, unsigned long number, const uint8_t *part,
+                              size_t part_len, char *text)
 {
-    size_t at = 0;
-    *end = REFUSED_NOT;
-    for (size_t i = 0; i < part_len && *end == REFUSED_NOT; i += RECORD_BYTES) {
+    struct told told = {.end = REFUSED_NOT};
+    for (size_t i = 0; i < part_len && told.end == REFUSED_NOT; i += RECORD_BYTES) {
         uint8_t refusal, answer = 0;
         number++;
-        if (part_len - i < RECORD_BYTES)
-            *end = refusal = REFUSED_RAGGED;
-        else if (number > LOG_RECORDS_MAX)
-            *end = refusal = REFUSED_TOO_LONG;
-        else
+        if (part_len - i < RECORD_BYTES) {
+            told.end = refusal = REFUSED_RAGGED;
+        } else if (number > LOG_RECORDS_MAX) {
+            told.end = refusal = REFUSED_TOO_LONG;
+        } else {
             model_step(m, part + i, &refusal, &answer);
-        at += (size_t)snprintf(text + at, LONGEST_LINE, "%lu %u %u\n", number, refusal, answer);
+            told.run++;
+            told.refused += refusal != REFUSED_NOT;
+        }
+        told.bytes += (size_t)snprintf(text + told.bytes, LONGEST_LINE, "%lu %u %u\n", number,
+                                       refusal, answer);
     }
-    return at;
+    return told;
 }
 
 /* Returns the refusal that ended the text, or 0. */
 static unsigned render_part(struct pair *p, uint32_t number, const uint8_t *part, size_t part_len,
                             char *text)
 {
-    unsigned end;
     size_t room = (part_len / RECORD_BYTES + 1) * MCP2515_LINE_SIZE + below(20);
     uint8_t *chip = fence_lend(&chip_fence, CHIP), *lent = fence_lend(&in_fence, part_len);
     uint8_t *got = fence_lend(&out_fence, room), before[CHIP];
     memcpy(before, p->chip, CHIP);
     memcpy(chip, p->chip, CHIP);
     memcpy(lent, part, part_len);
-    size_t want = model_text(&p->m, number, part, part_len, text, &end);
-    live_result(CALL_RENDER, (int64_t)want,
+    struct told want = model_text(&p->m, number, part, part_len, text);
+    live_result(CALL_RENDER, (int64_t)want.bytes,
                 mcp2515_render(chip, CHIP, number, lent, part_len, got, room));
-    if (memcmp(got, text, want) != 0)
+    if (memcmp(got, text, want.bytes) != 0)
         live_stop("the text of a part");
-    if (!fence_filled(got + want, room - want) || !fence_intact(&chip_fence, CHIP) ||
+    if (!fence_filled(got + want.bytes, room - want.bytes) || !fence_intact(&chip_fence, CHIP) ||
         !fence_intact(&out_fence, room) || memcmp(lent, part, part_len) != 0)
         live_stop("render wrote beside its text");
-    live_result(CALL_PART_REFUSAL, end, mcp2515_part_refusal(number, part_len));
+    live_result(CALL_PART_REFUSAL, want.end, mcp2515_part_refusal(number, part_len));
     memcpy(p->chip, chip, CHIP);
-    check_bytes(p, before, false);
-    parts[end]++;
-    return end;
+    check_bytes(p, before, want.refused == want.run);
+    parts[want.end]++;
+    refused_parts[p->random] += want.run > 0 && want.refused == want.run;
+    return want.end;
 }
 
 static void text_of_log(uint8_t *log, char *text)
@@ -447,15 +461,18 @@ static void refuse_bytes(void)
     *(length == CHIP ? &wrong_versions : &wrong_lengths) += 1;
 }
 
-static void random_start(uint8_t *log)
+static void random_start(uint8_t *log, char *text)
 {
-    struct pair p, q;
+    struct pair stepped, run, rendered;
+    uint32_t number = below(2) ? 0 : LOG_RECORDS_MAX - below(4);
     size_t records = some_log(log, below(60));
-    random_chip(&p, log, records);
-    q = p;
-    step_from_here(&p, 1 + below(60));
+    random_chip(&stepped, log, records);
+    run = rendered = stepped;
+    step_from_here(&stepped, 1 + below(60));
     records = some_log(log, below(60));
-    run_piece(&q, log, records);
+    run_piece(&run, log, records);
+    records = some_log(log, below(2) ? below(4) : below(60)); /* of a few, often all are refused */
+    render_part(&rendered, number, log, RECORD_BYTES * records, text);
     for (unsigned i = 0; i < 4; i++)
         refuse_bytes();
 }
@@ -531,7 +548,7 @@ int main(int argc, char **argv)
         pieces_of_log(log);
         text_of_log(log, text);
         for (unsigned i = 0; i < 30; i++)
-            random_start(log);
+            random_start(log, text);
     }
     check_threads(log);
     demand_all();
