@@ -76,7 +76,9 @@ static void store(uint8_t held[BUFFER_BYTES], const struct message *f)
     if (remote && !extended)
         held[SIDL] |= SRR;
     held[DLC] = (uint8_t)(f->code | (extended && remote ? RTR : 0));
-    memcpy(&held[D0], f->data, model_carried_bytes(remote, f->code));
+    for (unsigned i = 0; i < DATA_BYTES_MAX; i++)
+        if (!remote && i < f->code)
+            held[D0 + i] = f->data[i];
 }
 
 /* Control byte, receive status and READ RX BUFFER, which empties the buffer. */
@@ -241,7 +243,9 @@ static void sending_leaves_the_code(struct script *s)
 
 /* ---- filters ---- */
 
-/* Filter n takes identifier 123h or 12345678h with EID bytes AAh, 55h; no other does. */
+/* Filter n takes the standard identifier 123h, with AAh, 55h as EID bytes, or
+ * the extended 12345678h, whose own EID bytes are 56h, 78h; no other filter
+ * takes either. */
 static void only_filter(struct script *s, unsigned n, bool extended)
 {
     static const uint8_t at[6] = {RXF0SIDH, RXF1SIDH, RXF2SIDH, RXF3SIDH, RXF4SIDH, RXF5SIDH};

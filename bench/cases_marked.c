@@ -285,19 +285,18 @@ static void identifier_limits(struct script *s)
     frame_with_id(AT, FRAME_EXTENDED | FRAME_REMOTE, 0xFFFFFFFF, REFUSED_FIELD);
 }
 
-/* Codes 8 to 15 have all eight bytes: nothing is past the length then. */
-static void data_past_length(struct script *s)
+/* Length codes 8 to 15 have all eight bytes: nothing is past them then. A
+ * remote frame has a length code and no data. */
+static void data_past_length_code(struct script *s)
 {
-    for (uint8_t code = 0; code <= LENGTH_CODE_MAX; code++)
-        for (uint8_t i = 0; i < DATA_BYTES_MAX; i++) {
-            uint8_t record[RECORD_BYTES] = {KIND_FRAME, 0, code};
-            bool bad = i >= model_data_bytes(code);
-            record[8 + i] = 1;
-            for (record[1] = 0; record[1] <= FRAME_EXTENDED; record[1]++)
+    for (uint8_t flags = 0; flags <= (FRAME_EXTENDED | FRAME_REMOTE); flags++)
+        for (uint8_t code = 0; code <= LENGTH_CODE_MAX; code++)
+            for (uint8_t i = 0; i < DATA_BYTES_MAX; i++) {
+                uint8_t record[RECORD_BYTES] = {KIND_FRAME, flags, code};
+                bool bad = (flags & FRAME_REMOTE) || i >= code;
+                record[8 + i] = 1;
                 sc_raw(AT, record, bad ? REFUSED_FIELD : REFUSED_NOT, bad ? 0 : RX_NOT_LISTENING);
-            for (; record[1] <= (FRAME_EXTENDED | FRAME_REMOTE); record[1]++)
-                sc_raw(AT, record, REFUSED_FIELD, 0); /* a remote frame has a code and no data */
-        }
+            }
 }
 
 static void refusal_2_comes_first(struct script *s)
@@ -382,7 +381,7 @@ static const struct fixed_case table[] = {
     {"refusal 2: unnamed bytes", unnamed_bytes},
     {"refusal 2: kinds and field ranges", field_ranges},
     {"refusal 2: identifiers", identifier_limits},
-    {"refusal 2: data past the length", data_past_length},
+    {"refusal 2: data past the length code's bytes", data_past_length_code},
     {"refusal 2 before the others", refusal_2_comes_first},
     {"refusal 3", refusal_3},
     {"refusal 4", refusal_4},

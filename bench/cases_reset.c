@@ -127,7 +127,7 @@ static void keeps_receive_bytes(struct script *s)
 }
 
 /* A short frame after RESET leaves the data bytes that it does not carry. */
-static void keeps_bytes_past_the_length(struct script *s)
+static void keeps_bytes_past_the_length_code(struct script *s)
 {
     uint8_t kept[ADDRESSES] = {0};
     fill_rx(AT, kept);
@@ -434,7 +434,7 @@ static const struct fixed_case table[] = {
     {"RESET keeps the filters", keeps_filters},
     {"RESET keeps the transmit bytes", keeps_transmit_bytes},
     {"RESET keeps the receive bytes", keeps_receive_bytes},
-    {"RESET keeps data bytes past the next frame's length", keeps_bytes_past_the_length},
+    {"RESET keeps data bytes past the next frame's length code", keeps_bytes_past_the_length_code},
     {"RESET clears each other register", clears_each_register},
     {"RESET clears TXBnCTRL", clears_transmit_control},
     {"RESET clears RXBnCTRL", clears_receive_control},

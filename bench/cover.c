@@ -14,8 +14,9 @@ const uint8_t cover_buffer_code[COVER_BUFFER_CODES] = {0x90, 0x92, 0x94, 0x96, 0
                                                        0x41, 0x42, 0x43, 0x44, 0x45};
 const uint8_t cover_length[COVER_LENGTHS] = {8, 9, 13, 14};
 
-const char *const cover_class_name[COVER_CLASSES] = {"code 0", "code 1", "code 2 to 8",
-                                                     "code 9 to 15", "a remote frame"};
+const char *const cover_class_name[COVER_CLASSES] = {"length code 0", "length code 1",
+                                                     "length codes 2 to 8",
+                                                     "length codes 9 to 15", "a remote frame"};
 
 static void hit(struct cover *c, unsigned point)
 {
@@ -185,12 +186,12 @@ static struct given step_gives(struct model m, const uint8_t *r)
     return given;
 }
 
-/* Not refused for its fields once byte 2 has this code, or the data is gone. */
-static bool mended(const struct model *m, const uint8_t *r, uint8_t code, bool with_data)
+/* Not refused for its fields once byte 2 has this length code, or the data is gone. */
+static bool mended(const struct model *m, const uint8_t *r, uint8_t length_code, bool with_data)
 {
     uint8_t record[RECORD_BYTES] = {0};
     memcpy(record, r, with_data ? RECORD_BYTES : 8);
-    record[2] = code;
+    record[2] = length_code;
     return step_gives(*m, record).refusal != REFUSED_FIELD;
 }
 
@@ -199,19 +200,47 @@ static void damaged_frame(struct cover *c, const struct model *m, const uint8_t 
 {
     if (r[2] > LENGTH_CODE_MAX)
         hit_if(c, mended(m, r, LENGTH_CODE_MAX, true),
-               r[2] == LENGTH_CODE_MAX + 1 ? COVER_REFUSED_CODE_16 : COVER_REFUSED_CODE_ABOVE);
+               r[2] == LENGTH_CODE_MAX + 1 ? COVER_REFUSED_LENGTH_CODE_16
+                                           : COVER_REFUSED_LENGTH_CODE_ABOVE);
     else
         hit_if(c, mended(m, r, r[2], false),
                r[1] & FRAME_REMOTE ? COVER_REFUSED_DATA_REMOTE : COVER_REFUSED_DATA_PAST);
 }
 
-static enum cover_class class_of(bool remote, uint8_t code)
+/* The frame that the receive buffers are offered: from the bus as its record
+ * says, or sent in Loopback as the transmit buffer says before the step. */
+struct offered {
+    bool own;
+    bool remote;
+    bool extended;
+    uint8_t length_code;
+};
+
+static struct offered offered_frame(const struct model *before, const uint8_t *r)
 {
-    return remote      ? COVER_REMOTE
-           : code == 0 ? COVER_CODE_0
-           : code == 1 ? COVER_CODE_1
-           : code <= 8 ? COVER_CODE_2_TO_8
-                       : COVER_CODE_9_TO_15;
+    if (r[0] == KIND_FRAME)
+        return (struct offered){.remote = r[1] & FRAME_REMOTE,
+                                .extended = r[1] & FRAME_EXTENDED,
+                                .length_code = r[2]};
+    const uint8_t *buffer = &before->reg[TXB0CTRL + 0x10 * before->flight];
+    return (struct offered){.own = true,
+                            .remote = buffer[DLC] & RTR,
+                            .extended = buffer[SIDL] & IDE,
+                            .length_code = buffer[DLC] & DLC_CODE};
+}
+
+static bool has_byte(const struct offered *f, unsigned byte)
+{
+    return !f->remote && byte < f->length_code;
+}
+
+static enum cover_class class_of(const struct offered *f)
+{
+    return f->remote             ? COVER_REMOTE
+           : f->length_code == 0 ? COVER_LENGTH_CODE_0
+           : f->length_code == 1 ? COVER_LENGTH_CODE_1
+           : f->length_code <= 8 ? COVER_LENGTH_CODE_2_TO_8
+                                 : COVER_LENGTH_CODE_9_TO_15;
 }
 
 /* The filters see no data byte of this number. */
@@ -221,30 +250,40 @@ static void hide(struct model *m, unsigned byte)
     m->reg[RXM1SIDH + RXF_EID8 + byte] = 0;
 }
 
-/* A standard frame, from the bus or sent in Loopback: its answer, had the
- * filters seen an absent data byte or not seen a present one. */
+static uint8_t answer_without_byte(struct model m, const uint8_t *r, unsigned byte)
+{
+    hide(&m, byte);
+    return step_gives(m, r).answer;
+}
+
+/* As a data frame just long enough to have this byte. Byte 1 comes with byte
+ * 0: if the frame had neither, byte 0 is hidden, so that byte 1 alone is new. */
+static uint8_t answer_with_byte(struct model m, const uint8_t *r, unsigned byte)
+{
+    struct offered frame = offered_frame(&m, r);
+    uint8_t record[RECORD_BYTES], length_code = (uint8_t)(byte + 1);
+    memcpy(record, r, RECORD_BYTES);
+    if (frame.own) {
+        m.reg[TXB0CTRL + 0x10 * m.flight + DLC] = length_code;
+    } else {
+        record[1] = 0;
+        record[2] = length_code;
+    }
+    if (byte == 1 && !has_byte(&frame, 0))
+        hide(&m, 0);
+    return step_gives(m, record).answer;
+}
+
+/* A standard frame's answer, had the filters not seen a data byte that it has
+ * or seen one that it has not. */
 static void filtered(struct cover *c, const struct model *m, const uint8_t *r, uint8_t answer)
 {
-    bool own = r[0] == KIND_FRAME_ENDS;
-    unsigned buffer = TXB0CTRL + 0x10 * m->flight;
-    bool extended = own ? m->reg[buffer + SIDL] & IDE : r[1] & FRAME_EXTENDED;
-    bool remote = own ? m->reg[buffer + DLC] & RTR : r[1] & FRAME_REMOTE;
-    uint8_t code = own ? m->reg[buffer + DLC] & DLC_CODE : r[2];
-    unsigned bytes = model_carried_bytes(remote, code);
-    for (unsigned byte = 0; byte < 2 && !extended; byte++) {
-        struct model other = *m;
-        uint8_t record[RECORD_BYTES];
-        memcpy(record, r, RECORD_BYTES);
-        if (byte < bytes) {
-            hide(&other, byte);
-        } else {
-            *(own ? &other.reg[buffer + DLC] : &record[2]) = (uint8_t)(byte + 1);
-            record[1] = 0; /* no remote frame */
-            if (bytes < byte)
-                hide(&other, bytes); /* absent too */
-        }
-        if (answer != step_gives(other, record).answer)
-            c->filtered[byte][class_of(remote, code)]++;
+    struct offered frame = offered_frame(m, r);
+    for (unsigned byte = 0; byte < 2 && !frame.extended; byte++) {
+        uint8_t other = has_byte(&frame, byte) ? answer_without_byte(*m, r, byte)
+                                               : answer_with_byte(*m, r, byte);
+        if (other != answer)
+            c->filtered[byte][class_of(&frame)]++;
     }
 }
 
@@ -297,19 +336,19 @@ static void lost(struct cover *c, const struct model *before, const struct model
 static void stored(struct cover *c, const struct model *before, const uint8_t *r,
                    const struct model *after, uint8_t ctrl)
 {
-    const uint8_t *b = &after->reg[ctrl];
-    bool own = r[0] == KIND_FRAME_ENDS, remote = b[0] & RXRTR, extended = b[SIDL] & IDE;
-    bool rxm = (b[0] & RXM) == RXM;
-    unsigned number = b[0] & (ctrl == RXB0CTRL ? FILHIT0 : FILHIT);
+    struct offered frame = offered_frame(before, r);
+    bool rxm = (after->reg[ctrl] & RXM) == RXM;
+    unsigned number = after->reg[ctrl] & (ctrl == RXB0CTRL ? FILHIT0 : FILHIT);
     hit_if(c, rxm && ctrl == RXB0CTRL, COVER_RXM_RXB0);
     hit_if(c, rxm && ctrl == RXB1CTRL && number == 0, COVER_RXM_RXB1);
     hit_if(c, !rxm, COVER_HIT_0 + number);
     hit_if(c, !rxm && ctrl == RXB1CTRL && number < 2 && (before->reg[RXB0CTRL] & BUKT),
            COVER_ROLLED);
-    hit_if(c, b[SIDL] & SRR, COVER_STORED_STANDARD_REMOTE);
-    hit_if(c, b[DLC] & RTR, COVER_STORED_EXTENDED_REMOTE);
-    hit_if(c, extended && !remote, COVER_STORED_EXTENDED);
-    c->stored[own][remote][extended][b[DLC] & DLC_CODE]++;
+    hit_if(c, frame.remote && !frame.extended, COVER_STORED_STANDARD_REMOTE);
+    hit_if(c, frame.remote && frame.extended, COVER_STORED_EXTENDED_REMOTE);
+    hit_if(c, !frame.remote && frame.extended, COVER_STORED_EXTENDED);
+    if (frame.length_code <= LENGTH_CODE_MAX) /* a wrong model may take others */
+        c->stored[frame.own][frame.remote][frame.extended][frame.length_code]++;
 }
 
 static void received(struct cover *c, const struct model *before, const uint8_t *r, uint8_t answer,

@@ -17,9 +17,9 @@
     X(REFUSAL_2_KIND, "unknown kind")                                   \
     X(REFUSAL_2_SPI, "damaged select or exchange")                      \
     X(REFUSAL_2_FRAME, "damaged frame")                                 \
-    X(REFUSED_CODE_16, "frame refused for its length code 16 alone")    \
-    X(REFUSED_CODE_ABOVE, "frame refused for a higher code alone")      \
-    X(REFUSED_DATA_PAST, "frame refused for data past its code alone")  \
+    X(REFUSED_LENGTH_CODE_16, "frame refused for length code 16 alone") \
+    X(REFUSED_LENGTH_CODE_ABOVE, "frame refused, length code above 16") \
+    X(REFUSED_DATA_PAST, "frame refused for data past its length code") \
     X(REFUSED_DATA_REMOTE, "remote frame refused for data alone")       \
     X(REFUSAL_2_EVENT, "other damaged event")                           \
     X(REFUSAL_3_FRAME, "frame during a flight")                         \
@@ -166,10 +166,10 @@ extern const uint8_t cover_length[COVER_LENGTHS];
 
 /* How many data bytes the filters see, by the length code. */
 enum cover_class {
-    COVER_CODE_0,
-    COVER_CODE_1,
-    COVER_CODE_2_TO_8,
-    COVER_CODE_9_TO_15,
+    COVER_LENGTH_CODE_0,
+    COVER_LENGTH_CODE_1,
+    COVER_LENGTH_CODE_2_TO_8,
+    COVER_LENGTH_CODE_9_TO_15,
     COVER_REMOTE,
     COVER_CLASSES
 };
@@ -188,8 +188,8 @@ struct cover {
     /* Sessions of exactly this length with events inside, RXnIF set at select
      * low, or TXREQ clear and no flight. */
     unsigned long buffer_sessions[COVER_BUFFER_CODES][COVER_LENGTHS];
-    /* Frames by what the receive buffer then says: from the bus or sent in
-     * Loopback, data or remote, standard or extended, length code. */
+    /* Stored frames by what was offered: from the bus or sent in Loopback,
+     * data or remote, standard or extended, length code. */
     unsigned long stored[2][2][2][LENGTH_CODE_MAX + 1];
     /* Standard frames that would be answered otherwise if the filters saw the
      * absent data byte 0 or 1, or did not see the present one. */

@@ -69,16 +69,25 @@ static void id_bytes(struct gen *g, uint8_t out[4])
     out[RXF_EID0] = (uint8_t)eid;
 }
 
+/* A filter to aim a frame at. Extended ones are fewer, so a standard one is
+ * drawn again; in Loopback, where frames are fewer too, once more. */
+static const uint8_t *some_filter(struct gen *g)
+{
+    static const uint8_t filter_at[6] = {RXF0SIDH, RXF1SIDH, RXF2SIDH,
+                                         RXF3SIDH, RXF4SIDH, RXF5SIDH};
+    const uint8_t *filter = &g->chip.reg[PICK(g, filter_at)];
+    for (unsigned draws = g->chip.mode == MODE_LOOPBACK ? 2 : 1; draws > 0; draws--)
+        if (!(filter[RXF_SIDL] & IDE))
+            filter = &g->chip.reg[PICK(g, filter_at)];
+    return filter;
+}
+
 /* A frame as SIDH, SIDL, EID8, EID0 and eight data bytes. Most are aimed at a
  * filter: they have its identifier, and its EID bytes as data bytes 0 and 1,
  * often one of the two alone. */
 static void message_bytes(struct gen *g, uint8_t out[4 + DATA_BYTES_MAX])
 {
-    static const uint8_t filter_at[6] = {RXF0SIDH, RXF1SIDH, RXF2SIDH,
-                                         RXF3SIDH, RXF4SIDH, RXF5SIDH};
-    const uint8_t *filter = &g->chip.reg[PICK(g, filter_at)];
-    if (!(filter[RXF_SIDL] & IDE)) /* extended ones are fewer */
-        filter = &g->chip.reg[PICK(g, filter_at)];
+    const uint8_t *filter = some_filter(g);
     for (unsigned i = 0; i < DATA_BYTES_MAX; i++)
         out[4 + i] = some_data(g);
     if (chance(g, 80)) {
@@ -116,7 +125,8 @@ static bool any_txreq(const struct model *m)
     return ((m->reg[TXB0CTRL] | m->reg[TXB1CTRL] | m->reg[TXB2CTRL]) & TXREQ) != 0;
 }
 
-/* Bus idle where a buffer waits; in Loopback little else happens. */
+/* Bus idle, seldom where no buffer waits and in bus-off outside Loopback. In
+ * Loopback little else happens. */
 static unsigned idle_chance(const struct model *m)
 {
     if (!any_txreq(m))
@@ -341,6 +351,8 @@ static void plan_filters(struct gen *g)
                                            {0, 0, 0xFF, 0xFF}};
         uint8_t bytes[4];
         id_bytes(g, bytes);
+        if (chance(g, 100)) /* those not yet written are standard */
+            bytes[RXF_SIDL] |= IDE;
         const uint8_t *from = start == RXM0SIDH ? PICK(g, masks) : bytes;
         for (unsigned j = 0; j < 4; j++)
             add(g, from[j]);
@@ -405,10 +417,11 @@ static void add_load_to_limit(struct gen *g, unsigned which)
     }
 }
 
-/* Of a TX buffer; bits 7, 5 and 4 take no write. */
+/* Of a TX buffer; bits 7, 5 and 4 take no write. More are remote than not,
+ * since a buffer that was never loaded sends a data frame. */
 static uint8_t some_dlc(struct gen *g)
 {
-    return (uint8_t)(some_code(g) | (chance(g, 110) ? RTR : 0) | (chance(g, 20) ? 0xB0 : 0));
+    return (uint8_t)(some_code(g) | (chance(g, 140) ? RTR : 0) | (chance(g, 20) ? 0xB0 : 0));
 }
 
 static void plan_load(struct gen *g)
@@ -637,7 +650,7 @@ static void weigh_plans(const struct gen *g, unsigned weight[PLANS])
     if (m->mode == MODE_LOOPBACK && !any_txreq(m)) /* a new message for each frame */
         weight[g->loaded ? PLAN_RTS : PLAN_LOAD] += 100;
     if (m->reg[CANINTF] & (RX0IF | RX1IF))
-        weight[PLAN_READ_RX] += m->mode == MODE_LOOPBACK ? 40 : 15;
+        weight[PLAN_READ_RX] += m->mode == MODE_LOOPBACK ? 100 : 15;
     if (m->flight != NO_FLIGHT)
         weight[PLAN_IN_FLIGHT] = 30;
     if (model_bus_off(m) && (m->mode == MODE_NORMAL || m->mode == MODE_SLEEP))
@@ -674,8 +687,8 @@ static void draw_mix(struct gen *g)
     static const uint8_t outside[] = {30, 120, 220}, inside[] = {0, 20, 60, 120},
                          bad[] = {0, 6, 40}, cut[] = {0, 8, 40}, failure[] = {10, 80, 220, 250},
                          favoured[] = {MODE_NORMAL, MODE_NORMAL, MODE_NORMAL, MODE_LOOPBACK,
-                                       MODE_LOOPBACK, MODE_SLEEP, MODE_LISTEN_ONLY,
-                                       MODE_CONFIGURATION},
+                                       MODE_LOOPBACK, MODE_LOOPBACK, MODE_SLEEP,
+                                       MODE_LISTEN_ONLY, MODE_CONFIGURATION},
                          mode_changes[] = {1, 6, 30};
     struct gen_mix *mix = &g->mix;
     mix->event_outside = PICK(g, outside);

@@ -78,8 +78,9 @@ void sc_frame(struct script *s, uint8_t flags, uint32_t id, uint8_t code, const 
     uint8_t record[RECORD_BYTES] = {KIND_FRAME, flags, code};
     for (unsigned i = 0; i < 4; i++)
         record[4 + i] = (uint8_t)(id >> (24 - 8 * i));
-    if (data)
-        memcpy(record + 8, data, model_data_bytes(code));
+    for (unsigned i = 0; i < DATA_BYTES_MAX; i++)
+        if (data && i < code)
+            record[8 + i] = (uint8_t)data[i];
     sc_raw(s, record, REFUSED_NOT, answer);
 }
 

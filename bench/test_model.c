@@ -267,21 +267,23 @@ static void test_unreached_counters(void)
 }
 
 /* The chip once RXB0, by RXM 11, has taken a standard frame with the identifier 0. */
-static struct model with_rxb0(struct model m, bool remote, uint8_t code, const uint8_t *data)
+static struct model with_rxb0(struct model m, bool remote, uint8_t length_code,
+                              const uint8_t *data)
 {
     uint8_t *rxb0 = &m.reg[RXB0CTRL];
     rxb0[0] = RXM | (remote ? RXRTR : 0);
     rxb0[SIDL] = remote ? SRR : 0;
-    rxb0[DLC] = code;
-    for (unsigned i = 0; i < model_carried_bytes(remote, code); i++)
-        rxb0[D0 + i] = data[i];
+    rxb0[DLC] = length_code;
+    for (unsigned i = 0; i < DATA_BYTES_MAX; i++)
+        if (!remote && i < length_code)
+            rxb0[D0 + i] = data[i];
     m.reg[CANINTF] |= RX0IF;
     return m;
 }
 
-/* Bits 7, 5 and 4 of a DLC byte are no part of the code, and the byte behind
- * data byte 7 is no data, of whatever chip. */
-static void test_unreached_codes(void)
+/* Bits 7, 5 and 4 of a DLC byte are no part of the length code, and the byte
+ * behind data byte 7 is no data, of whatever chip. */
+static void test_unreached_length_codes(void)
 {
     for (unsigned dlc = 0; dlc < 256; dlc++) {
         struct model m = chip_in(MODE_LOOPBACK);
@@ -299,20 +301,28 @@ static void test_unreached_codes(void)
 }
 
 /* A ninth byte behind the record is not looked at and not stored. */
+static void check_no_ninth_byte(bool remote, uint8_t length_code)
+{
+    uint8_t record[RECORD_BYTES + 8] = {KIND_FRAME, remote ? FRAME_REMOTE : 0, length_code};
+    uint8_t refusal, answer;
+    struct model m = chip_in(MODE_NORMAL);
+    m.reg[RXB0CTRL] = RXM;
+    memset(record + RECORD_BYTES, 0x99, 8);
+    for (unsigned i = 0; i < DATA_BYTES_MAX; i++)
+        if (!remote && i < length_code)
+            record[8 + i] = 0x77;
+    struct model want = with_rxb0(m, remote, length_code, record + 8);
+    model_step(&m, record, &refusal, &answer);
+    EXPECT("refusal", REFUSED_NOT, refusal);
+    EXPECT("the chip after any length code was heard", 0, memcmp(&want, &m, sizeof want));
+}
+
 static void test_no_ninth_byte(void)
 {
-    for (uint8_t code = 0; code <= LENGTH_CODE_MAX; code++)
-        for (uint8_t flags = 0; flags <= FRAME_REMOTE; flags += FRAME_REMOTE) {
-            uint8_t record[RECORD_BYTES + 8] = {KIND_FRAME, flags, code}, refusal, answer;
-            struct model m = chip_in(MODE_NORMAL);
-            m.reg[RXB0CTRL] = RXM;
-            memset(record + RECORD_BYTES, 0x99, 8);
-            memset(record + 8, 0x77, model_carried_bytes(flags, code));
-            struct model want = with_rxb0(m, flags, code, record + 8);
-            model_step(&m, record, &refusal, &answer);
-            EXPECT("refusal", REFUSED_NOT, refusal);
-            EXPECT("the chip after any code was heard", 0, memcmp(&want, &m, sizeof want));
-        }
+    for (uint8_t length_code = 0; length_code <= LENGTH_CODE_MAX; length_code++) {
+        check_no_ninth_byte(false, length_code);
+        check_no_ninth_byte(true, length_code);
+    }
 }
 
 /* What a chip after RESET has other than the rule says, or NULL. */
@@ -352,16 +362,16 @@ static void test_unreached_resets(uint64_t state)
     }
 }
 
-/* The one definition that model, generator and cases share, against the rule's
- * words. Nothing else is tried if it is wrong: records are filled by it. */
+/* The one definition that model and generator share, against the rule's words.
+ * Nothing else is tried if it is wrong: random records are filled by it. */
 static void test_data_bytes(void)
 {
     static const uint8_t want[LENGTH_CODE_MAX + 1] = {0, 1, 2, 3, 4, 5, 6, 7,
                                                       8, 8, 8, 8, 8, 8, 8, 8};
-    for (uint8_t code = 0; code <= LENGTH_CODE_MAX; code++) {
-        EXPECT("data bytes of a code", want[code], model_data_bytes(code));
-        EXPECT("data bytes of a data frame", want[code], model_carried_bytes(false, code));
-        EXPECT("data bytes of a remote frame", 0, model_carried_bytes(true, code));
+    for (uint8_t i = 0; i <= LENGTH_CODE_MAX; i++) {
+        EXPECT("data bytes of a length code", want[i], model_data_bytes(i));
+        EXPECT("data bytes of a data frame", want[i], model_carried_bytes(false, i));
+        EXPECT("data bytes of a remote frame", 0, model_carried_bytes(true, i));
     }
     if (failures > 0)
         exit(1);
@@ -1019,17 +1029,17 @@ struct rarest {
 };
 
 /* Frames stored by every length code, from the bus and in Loopback. */
-static struct rarest check_stored_codes(const struct cover *c, bool show)
+static struct rarest check_stored_length_codes(const struct cover *c, bool show)
 {
-    enum { CODES = LENGTH_CODE_MAX + 1 };
+    enum { LENGTH_CODES = LENGTH_CODE_MAX + 1 };
     struct rarest rarest = {.count = ULONG_MAX};
-    for (unsigned i = 0; i < 8 * CODES; i++) {
-        unsigned code = i % CODES, form = i / CODES;
+    for (unsigned i = 0; i < 8 * LENGTH_CODES; i++) {
+        unsigned length_code = i % LENGTH_CODES, form = i / LENGTH_CODES;
         unsigned own = form >> 2, remote = form >> 1 & 1, extended = form & 1;
-        unsigned long count = c->stored[own][remote][extended][code];
+        unsigned long count = c->stored[own][remote][extended][length_code];
         char sort[64];
-        snprintf(sort, sizeof sort, "%s, %s, %s, code %u", own ? "Loopback" : "bus",
-                 remote ? "remote" : "data", extended ? "extended" : "standard", code);
+        snprintf(sort, sizeof sort, "%s, %s, %s, length code %u", own ? "Loopback" : "bus",
+                 remote ? "remote" : "data", extended ? "extended" : "standard", length_code);
         if (count == 0)
             fail(__FILE__, __LINE__, "random logs: expected a stored frame (%s), got none", sort);
         if (show)
@@ -1043,7 +1053,7 @@ static struct rarest check_stored_codes(const struct cover *c, bool show)
 }
 
 /* Frames whose answer data byte 0 or 1 decided, by being there or not. */
-static void check_filtered_codes(const struct cover *c, bool show)
+static void check_filtered_length_codes(const struct cover *c, bool show)
 {
     for (unsigned byte = 0; byte < 2; byte++)
         for (unsigned i = 0; i < COVER_CLASSES; i++) {
@@ -1061,7 +1071,7 @@ static void check_filtered_codes(const struct cover *c, bool show)
 static void test_coverage(uint64_t seeds, const struct tidy_tally *tally, struct rarest *rarest,
                           bool show)
 {
-    enum { RECORDS = 3000, LOGS = 300 };
+    enum { RECORDS = 3000, LOGS = 400 };
     struct cover c = {0};
     uint8_t *log = malloc(RECORD_BYTES * RECORDS);
     for (unsigned i = 0; i < LOGS; i++) {
@@ -1078,8 +1088,8 @@ static void test_coverage(uint64_t seeds, const struct tidy_tally *tally, struct
     }
     check_buffer_sessions(&c, show);
     check_resets(&c, show);
-    check_filtered_codes(&c, show);
-    *rarest = check_stored_codes(&c, show);
+    check_filtered_length_codes(&c, show);
+    *rarest = check_stored_length_codes(&c, show);
     for (unsigned i = 0; i < TIDY_COMMANDS; i++) {
         bool can_be_cut = i != TIDY_EMPTY && i != TIDY_RESET && i != TIDY_RTS && i != TIDY_UNKNOWN;
         if (tally->with_events[i] == 0 || (can_be_cut && tally->cut_with_events[i] == 0))
@@ -1107,7 +1117,7 @@ int main(int argc, char **argv)
     test_unreached_abort();
     test_unreached_flights();
     test_unreached_counters();
-    test_unreached_codes();
+    test_unreached_length_codes();
     test_unreached_resets(seed);
     test_no_ninth_byte();
     test_power_on();
