@@ -12,7 +12,7 @@ use Rattle.registers.specs.declared.Flight.the-variants.{Idle, Of}
 use Rattle.registers.specs.declared.TxControl.{TxControl}
 use Rattle.registers.specs.declared.Counters.{Counters}
 use Rattle.registers.specs.declared.Control.{Control}
-use Rattle.registers.specs.State.{OSM, TXREQ, TXERR, MLOA, ABTF, MERRF, isNormal, txNumber, txFlag, txControl, withTxControl, withTx, withCanintf, withFlight}
+use Rattle.registers.specs.State.{OSM, EXIDE, RTR, TXREQ, TXERR, MLOA, ABTF, MERRF, isNormal, txNumber, txFlag, txControl, withTxControl, withTx, withCanintf, withFlight}
 use Rattle.registers.specs.Errors.{isBusOff, movedTo, tecLess, tecMore}
 use Rattle.registers.specs.Modes.{sendsIn, waits}
 use Rattle.registers.specs.State.{abortsAll}
@@ -95,15 +95,15 @@ abbrev pub identifierSent : Bool → ℕ → ℕ → ℕ → ℕ → ℕ
 identifierSent extended sidh sidl eid8 eid0 =
     cond extended (sidh * 0x200000 + sidl / 32 * 0x40000 + sidl % 4 * 0x10000 + eid8 * 0x100 + eid0) (sidh * 8 + sidl / 32)
 
--- SIDL bit 3 extended, DLC bit 6 remote; the bytes of TXBn lie from 16 n on. Of the data those
+-- EXIDE of SIDL says extended, RTR of DLC remote; the bytes of TXBn lie from 16 n on. Of the data those
 -- count that the frame carries: Receiving.carriedBy, by Records.dataBytes
 unfoldable pub frameAt : List ℕ → ℕ → Frame
 frameAt tx at =
     record {
-      extended = hasBit (getD tx (at + 2) 0) 3;
-      remote = hasBit (getD tx (at + 5) 0) 6;
+      extended = hasBit (getD tx (at + 2) 0) EXIDE;
+      remote = hasBit (getD tx (at + 5) 0) RTR;
       code = codeSent (getD tx (at + 5) 0);
-      identifier = identifierSent (hasBit (getD tx (at + 2) 0) 3) (getD tx (at + 1) 0) (getD tx (at + 2) 0) (getD tx (at + 3) 0) (getD tx (at + 4) 0);
+      identifier = identifierSent (hasBit (getD tx (at + 2) 0) EXIDE) (getD tx (at + 1) 0) (getD tx (at + 2) 0) (getD tx (at + 3) 0) (getD tx (at + 4) 0);
       bytes =
           getD tx (at + 6) 0 ∷ getD tx (at + 7) 0 ∷ getD tx (at + 8) 0 ∷ getD tx (at + 9) 0
           ∷ getD tx (at + 10) 0 ∷ getD tx (at + 11) 0 ∷ getD tx (at + 12) 0 ∷ getD tx (at + 13) 0 ∷ [];

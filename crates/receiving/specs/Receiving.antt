@@ -13,7 +13,7 @@ use Rattle.registers.specs.declared.RxBuffer.the-variants.{Rxb0, Rxb1}
 use Rattle.registers.specs.declared.RxControl.{RxControl}
 use Rattle.registers.specs.declared.Control.{Control}
 use Rattle.registers.specs.declared.Core.{Core}
-use Rattle.registers.specs.State.{RX0IF, RX1IF, ERRIF, BUKT, rxFlag, withRx, withCanintf, withEflg}
+use Rattle.registers.specs.State.{RX0IF, RX1IF, ERRIF, EXIDE, BUKT, rxFlag, withRx, withCanintf, withEflg}
 use Rattle.registers.specs.Registers.{rxControl}
 use Rattle.registers.specs.State.{updated}
 use Rattle.receiving.specs.declared.Key.{Key}
@@ -87,7 +87,7 @@ sameAs x y = cond x y (not y)
 -- filter n matches: the frame is extended just if SIDL bit 3 says so, and no bit under the mask differs
 unfoldable pub matches : List ℕ → Key → ℕ → Bool
 matches config q n =
-    sameAs (q .extended) (hasBit (getD config (filterAt n + 1) 0) 3)
+    sameAs (q .extended) (hasBit (getD config (filterAt n + 1) 0) EXIDE)
     && agreeUnder (getD config (maskAt n) 0) (getD config (filterAt n) 0) (q .sidh)
     && agreeUnder (bitAnd (getD config (maskAt n + 1) 0) (q .reach1)) (getD config (filterAt n + 1) 0) (q .sidl)
     && agreeUnder (bitAnd (getD config (maskAt n + 2) 0) (q .reach2)) (getD config (filterAt n + 2) 0) (q .eid8)

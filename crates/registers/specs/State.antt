@@ -55,6 +55,13 @@ OSM = 3
 abbrev pub ABAT : ℕ
 ABAT = 4
 
+-- SIDL of a filter or a message to send, and DLC of one
+abbrev pub EXIDE : ℕ
+EXIDE = 3
+
+abbrev pub RTR : ℕ
+RTR = 6
+
 -- TXBnCTRL
 abbrev pub TXREQ : ℕ
 TXREQ = 3
