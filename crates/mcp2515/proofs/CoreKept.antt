@@ -44,7 +44,7 @@ use Rattle.controller.specs.declared.End.{End}
 use Rattle.controller.specs.declared.End.the-variants.{Sent, LostArbitration, Failed}
 use Rattle.controller.specs.Sending.{rankOf, bestOf, choiceOf, endOf, started, maySend, afterFailure, counted, withCtrl, sentBy, lostBy, failedBy, endedBy, frameSent}
 use Rattle.controller.specs.Events.{Told, wokenControl, heardIn, heardOf, endsIn, endsBy, ended, idled, errorAdds, errorHeard, recovered, happensBy, eventRefusal, eventOf}
-use Rattle.spi.proofs.Parts.{clash}
+use Rattle.spi.proofs.Clash.{clash}
 use Rattle.mcp2515.proofs.CoreFacts.{RxByte}
 
 -- a fact of both values of a choice is one of the choice

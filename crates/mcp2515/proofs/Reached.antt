@@ -46,7 +46,7 @@ use Rattle.spi.specs.declared.Act.the-variants.{Rest, ResetAll, Fetch, Store, M
 use Rattle.mcp2515.specs.declared.Chip.{Chip}
 use Rattle.mcp2515.specs.declared.Stepped.{Stepped}
 use Rattle.spi.specs.Instructions.{clearedOf, acted}
-use Rattle.spi.proofs.Parts.{clash}
+use Rattle.spi.proofs.Clash.{clash}
 use Rattle.mcp2515.specs.Step.{powerOn, asked, stepOf, nextChip, chipAfter}
 use Rattle.mcp2515.specs.Runs.{SettledReached, isPending, PendingReached, FlightReached, isStore, storesInConfiguration, FiltersKept, MasksKept}
 use Rattle.mcp2515.proofs.CoreFacts.{Good}

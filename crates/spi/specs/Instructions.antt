@@ -1,7 +1,6 @@
 -- Instructions: the SPI side as an automaton. A byte and the open instruction give the next open instruction and one act on the core.
 use Prim.Native.Nat.{ℕ, _+_, _/_, _%_}
-use mathlib.Core.Bool.{Bool, true, false, cond}
-use mathlib.Core.Path.{_≡_}
+use mathlib.Core.Bool.{cond}
 use lib.Dec.{eqb, ltb}
 use lib.Bits.{bitOr}
 use lib.ListN.{getD}
@@ -14,7 +13,6 @@ use Rattle.registers.specs.declared.Core.{Core}
 use Rattle.registers.specs.State.{RX0IF, RX1IF, TX0IF, TX1IF, TX2IF, TXREQ, RXRTR, rxFlag, withCanintf, withControl}
 use Rattle.registers.specs.Registers.{reads, resetCore}
 use Rattle.stores.specs.Store.{stored, modified, requestedToSend}
-use Rattle.registers.specs.Modes.{settled}
 use Rattle.controller.specs.Events.{settledCore}
 use Rattle.spi.specs.declared.Command.{Command}
 use Rattle.spi.specs.declared.Command.the-variants.{Reset, Read, Write, BitModify, ReadRxBuffer, LoadTxBuffer, Rts, ReadStatus, RxStatus, UnknownCode}
@@ -198,33 +196,3 @@ refusalOf (ClearFlag n) = 0
 refusalOf FetchStatus = 0
 refusalOf FetchRxStatus = 0
 refusalOf (Refuse n) = n
-
--- ---- the same in parts: only a store, BIT MODIFY and RESET write bytes of the chip, every other act stays within the control registers
-abbrev pub isWrite : Act → Bool
-isWrite Rest = false
-isWrite ResetAll = true
-isWrite (Fetch a) = false
-isWrite (Store a b) = true
-isWrite (Modify a m b) = true
-isWrite (RequestToSend m) = false
-isWrite (ClearFlag n) = false
-isWrite FetchStatus = false
-isWrite FetchRxStatus = false
-isWrite (Refuse n) = false
-
--- the control registers after an act that writes no byte; of one that does, they come with its bytes, and nothing is said here
-abbrev pub controlled : Act → Control → Control
-controlled Rest c = settled c
-controlled ResetAll c = c
-controlled (Fetch a) c = settled c
-controlled (Store a b) c = c
-controlled (Modify a m b) c = c
-controlled (RequestToSend m) c = settled (requestedToSend c m)
-controlled (ClearFlag n) c = settled (clearedOf c n)
-controlled FetchStatus c = settled c
-controlled FetchRxStatus c = settled c
-controlled (Refuse n) c = c
-
--- an act that writes no byte: its control registers are all that it changes
-abbrev pub ActsWithin : Type 0
-ActsWithin = (x : Act) (k : Core) → isWrite x ≡ false → acted x k ≡ withControl k (controlled x (k .control))
