@@ -33,13 +33,13 @@ static void start_again(struct script *s)
     sc_reset(s);
 }
 
-/* The records of fixed cases one after another, then random ones. */
-static void write_cases(const char *name, size_t cases, uint64_t seed, size_t tail)
+/* The records of fixed cases one after another, from first up to past, then random ones. */
+static void write_cases(const char *name, size_t first, size_t past, uint64_t seed, size_t tail)
 {
     struct script s;
     struct gen g;
     script_init(&s);
-    for (size_t i = 0; i < cases; i++) {
+    for (size_t i = first; i < past; i++) {
         case_at(i)->write(&s);
         start_again(&s);
     }
@@ -75,8 +75,10 @@ int main(int argc, char **argv)
     uint64_t seed = argc > 2 ? strtoull(argv[2], NULL, 0) : 2515;
 
     write_five();
-    write_cases("marked.log", marked_cases.count, seed, 1000);
-    write_cases("cases.log", case_count(), seed + 1, 2000);
+    size_t before_match = case_count() - match_cases.count; /* with these a log is too long */
+    write_cases("marked.log", 0, marked_cases.count, seed, 1000);
+    write_cases("cases.log", 0, before_match, seed + 1, 2000);
+    write_cases("match.log", before_match, case_count(), seed + 4, 2000);
     gen_log(GEN_MIXED, seed + 2, log, MOST + 2);
     write_file("empty.log", log, 0);
     write_file("stub.log", log, 7);
