@@ -354,8 +354,10 @@ static void stored(struct cover *c, const struct model *before, const uint8_t *r
 static void received(struct cover *c, const struct model *before, const uint8_t *r, uint8_t answer,
                      const struct model *after)
 {
-    if (answer <= RX_LOST)
+    if (answer <= RX_LOST) {
         filtered(c, before, r, answer);
+        cover_match(c, before, r, answer);
+    }
     if (answer == RX_IN_RXB0 || answer == RX_IN_RXB1)
         filter_after_reset(c, after, answer);
     if (answer == RX_LOST)

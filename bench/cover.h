@@ -9,6 +9,7 @@
 #include <stddef.h>
 #include <stdint.h>
 
+#include "match.h"
 #include "model.h"
 
 #define COVER_LIST(X)                                                   \
@@ -148,7 +149,19 @@
     X(INT_ERRIF, "INT falls, by ERRIF alone")                           \
     X(INT_WAKIF, "INT falls, by WAKIF alone")                           \
     X(INT_MERRF, "INT falls, by MERRF alone")                           \
-    X(ENDS_OPEN, "log ends in an open session")
+    X(ENDS_OPEN, "log ends in an open session")                         \
+    X(MATCH_EID17_16, "standard frame, EID17-16 would decide")          \
+    X(MATCH_OWN_EID17_16, "the same, sent with EID17-16 in its buffer") \
+    X(MATCH_OWN_EID, "sent standard, its EID8 and EID0 would decide")   \
+    X(MATCH_EXTENDED_DATA, "extended frame, its data would decide")     \
+    X(MATCH_EXIDE_STANDARD, "EXIDE keeps out a standard frame, mask 0") \
+    X(MATCH_EXIDE_EXTENDED, "lack of EXIDE an extended one, mask 0")    \
+    X(MATCH_MASK_0, "RXF0 would decide by mask 1")                      \
+    X(MATCH_MASK_1, "RXF1 would decide by mask 1")                      \
+    X(MATCH_MASK_2, "RXF2 would decide by mask 0")                      \
+    X(MATCH_MASK_3, "RXF3 would decide by mask 0")                      \
+    X(MATCH_MASK_4, "RXF4 would decide by mask 0")                      \
+    X(MATCH_MASK_5, "RXF5 would decide by mask 0")
 
 enum cover_point {
 #define COVER_ENUM(name, text) COVER_##name,
@@ -194,6 +207,10 @@ struct cover {
     /* Standard frames that would be answered otherwise if the filters saw the
      * absent data byte 0 or 1, or did not see the present one. */
     unsigned long filtered[2][COVER_CLASSES];
+    /* Frames that would be answered otherwise if this filter matched them,
+     * which it does not for this one bit. */
+    unsigned long one_bit[MATCH_FILTERS][MATCH_BITS];
+    unsigned long matched_otherwise; /* not as match.h says */
     unsigned long resets;
     unsigned long reset_bit[COVER_ADDRESSES][8]; /* met other than RESET would make it */
     unsigned long reset_read[COVER_ADDRESSES];   /* such a byte read while still in hand */
@@ -210,6 +227,10 @@ struct cover {
 };
 
 extern const char *const cover_text[COVER_POINTS];
+
+/* A frame that was listened to: which bits and masks decided (cover_match.c). */
+void cover_match(struct cover *c, const struct model *before, const uint8_t *record,
+                 uint8_t answer);
 
 /* One step: chips before and after, what the record gave. */
 void cover_step(struct cover *c, const struct model *before, const uint8_t *record,

@@ -82,9 +82,23 @@ static const uint8_t *some_filter(struct gen *g)
     return filter;
 }
 
+/* Turns one bit that the filter's mask has, of the identifier or of data bytes 0 and 1. */
+static void miss_by_one_bit(struct gen *g, const uint8_t *filter, uint8_t out[4 + DATA_BYTES_MAX])
+{
+    const uint8_t *mask = &g->chip.reg[filter < &g->chip.reg[RXF2SIDH] ? RXM0SIDH : RXM1SIDH];
+    bool extended = filter[RXF_SIDL] & IDE;
+    unsigned byte = 0;
+    uint8_t bit = 0;
+    for (unsigned draws = 0; draws < 12 && bit == 0; draws++) {
+        byte = below(g, 4);
+        bit = mask[byte] & (uint8_t)(1u << below(g, 8));
+    }
+    out[byte < RXF_EID8 || extended ? byte : 4 + byte - RXF_EID8] ^= bit;
+}
+
 /* A frame as SIDH, SIDL, EID8, EID0 and eight data bytes. Most are aimed at a
  * filter: they have its identifier, and its EID bytes as data bytes 0 and 1,
- * often one of the two alone. */
+ * often one of the two alone; or they miss it by one bit. */
 static void message_bytes(struct gen *g, uint8_t out[4 + DATA_BYTES_MAX])
 {
     const uint8_t *filter = some_filter(g);
@@ -95,9 +109,12 @@ static void message_bytes(struct gen *g, uint8_t out[4 + DATA_BYTES_MAX])
         return;
     }
     memcpy(out, filter, 4);
+    bool near = g->profile == GEN_MIXED && chance(g, 70);
     for (unsigned i = 0; i < 2; i++)
-        if (chance(g, 150))
+        if (near || chance(g, 150))
             out[4 + i] = filter[RXF_EID8 + i];
+    if (near)
+        miss_by_one_bit(g, filter, out);
 }
 
 /* ---- bus events ---- */
@@ -354,8 +371,9 @@ static void plan_filters(struct gen *g)
         if (chance(g, 100)) /* those not yet written are standard */
             bytes[RXF_SIDL] |= IDE;
         const uint8_t *from = start == RXM0SIDH ? PICK(g, masks) : bytes;
+        bool any_mask = g->profile == GEN_MIXED && start == RXM0SIDH && chance(g, 80);
         for (unsigned j = 0; j < 4; j++)
-            add(g, from[j]);
+            add(g, any_mask ? any_byte(g) : from[j]);
     }
 }
 

@@ -11,6 +11,7 @@
 #include "cases.h"
 #include "cover.h"
 #include "gen.h"
+#include "match.h"
 #include "model.h"
 #include "registers.h"
 #include "script.h"
@@ -322,6 +323,44 @@ static void test_no_ninth_byte(void)
     for (uint8_t length_code = 0; length_code <= LENGTH_CODE_MAX; length_code++) {
         check_no_ninth_byte(false, length_code);
         check_no_ninth_byte(true, length_code);
+    }
+}
+
+/* A chip that listens, with any bytes in filters and masks. By WRITE no log
+ * sets SIDL bits 4 and 2 there, nor bit 3 of a mask. */
+static struct model chip_with_any_filters(uint64_t *state)
+{
+    struct model m = chip_in(MODE_LISTEN_ONLY);
+    for (unsigned a = RXF0SIDH; a < CNF3; a++)
+        if ((a & 0x0F) < BFPCTRL)
+            m.reg[a] = (uint8_t)(gen_next(state) >> 40);
+    return m;
+}
+
+/* Frames that mostly miss a filter by one bit or none, against match.c. */
+static void test_unreached_matches(uint64_t state)
+{
+    for (unsigned i = 0; i < 100000; i++) {
+        struct model m = chip_with_any_filters(&state);
+        uint64_t dice = gen_next(&state);
+        uint8_t record[RECORD_BYTES], refusal, answer;
+        uint32_t filter = match_filter(&m, i % MATCH_FILTERS);
+        uint8_t remote = dice >> 40 & 3 ? 0 : FRAME_REMOTE, length_code = dice >> 44 & 3;
+        uint8_t extended = filter & MATCH_EXIDE ? FRAME_EXTENDED : 0;
+        match_record(record, (dice >> 50) % 16 ? remote | extended : remote | !extended,
+                     length_code, dice & 64 ? filter : filter ^ 1u << dice % 32);
+        struct match_frame frame = match_heard(record);
+        unsigned set = match_set(&m, &frame), hit = set ? (unsigned)__builtin_ctz(set) : 0;
+        model_step(&m, record, &refusal, &answer);
+        EXPECT("any filters and masks",
+               set == 0  ? RX_UNMATCHED
+               : hit < 2 ? RX_IN_RXB0
+                         : RX_IN_RXB1,
+               answer);
+        if (set)
+            EXPECT("the lowest of them", hit, m.reg[hit < 2 ? RXB0CTRL : RXB1CTRL] & FILHIT);
+        if (failures > 0)
+            return;
     }
 }
 
@@ -1052,24 +1091,60 @@ static struct rarest check_stored_length_codes(const struct cover *c, bool show)
     return rarest;
 }
 
+/* A corner of the match rule, met often enough that another seed meets it too. */
+static void demand_match(struct rarest *rarest, unsigned long count, const char *text, bool show)
+{
+    enum { LEAST = 3 };
+    if (count < LEAST)
+        fail(__FILE__, __LINE__, "random logs: expected \"%s\" to decide %d times, got %lu", text,
+             LEAST, count);
+    if (show)
+        printf("%10lu  decides: %s\n", count, text);
+    if (count < rarest->count) {
+        rarest->count = count;
+        snprintf(rarest->sort, sizeof rarest->sort, "%s", text);
+    }
+}
+
 /* Frames whose answer data byte 0 or 1 decided, by being there or not. */
-static void check_filtered_length_codes(const struct cover *c, bool show)
+static void check_filtered_length_codes(const struct cover *c, struct rarest *rarest, bool show)
 {
     for (unsigned byte = 0; byte < 2; byte++)
         for (unsigned i = 0; i < COVER_CLASSES; i++) {
-            if (c->filtered[byte][i] == 0)
-                fail(__FILE__, __LINE__,
-                     "random logs: expected data byte %u to decide for %s, got none", byte,
-                     cover_class_name[i]);
-            if (show)
-                printf("%10lu  data byte %u decides for %s\n", c->filtered[byte][i], byte,
-                       cover_class_name[i]);
+            char text[64];
+            snprintf(text, sizeof text, "data byte %u for %s", byte, cover_class_name[i]);
+            demand_match(rarest, c->filtered[byte][i], text, show);
         }
+}
+
+/* The corners of the match rule, each bit that can decide and each filter. */
+static struct rarest check_match(const struct cover *c, bool show)
+{
+    struct rarest rarest = {.count = ULONG_MAX};
+    unsigned long of_filter[MATCH_FILTERS] = {0};
+    EXPECT("frames matched otherwise than by match.c", 0, c->matched_otherwise);
+    for (unsigned bit = 0; bit < MATCH_BITS; bit++) {
+        unsigned long sum = 0;
+        for (unsigned n = 0; n < MATCH_FILTERS; n++) {
+            sum += c->one_bit[n][bit];
+            of_filter[n] += c->one_bit[n][bit];
+        }
+        demand_match(&rarest, sum, match_bit_name(bit), show);
+    }
+    for (unsigned n = 0; n < MATCH_FILTERS; n++) {
+        char text[64];
+        snprintf(text, sizeof text, "a single bit of RXF%u", n);
+        demand_match(&rarest, of_filter[n], text, show);
+    }
+    check_filtered_length_codes(c, &rarest, show);
+    for (unsigned i = COVER_MATCH_EID17_16; i <= COVER_MATCH_MASK_5; i++)
+        demand_match(&rarest, c->count[i], cover_text[i], show);
+    return rarest;
 }
 
 /* Random logs are worth something only if they get everywhere. */
 static void test_coverage(uint64_t seeds, const struct tidy_tally *tally, struct rarest *rarest,
-                          bool show)
+                          struct rarest *rarest_match, bool show)
 {
     enum { RECORDS = 3000, LOGS = 400 };
     struct cover c = {0};
@@ -1088,8 +1163,8 @@ static void test_coverage(uint64_t seeds, const struct tidy_tally *tally, struct
     }
     check_buffer_sessions(&c, show);
     check_resets(&c, show);
-    check_filtered_length_codes(&c, show);
     *rarest = check_stored_length_codes(&c, show);
+    *rarest_match = check_match(&c, show);
     for (unsigned i = 0; i < TIDY_COMMANDS; i++) {
         bool can_be_cut = i != TIDY_EMPTY && i != TIDY_RESET && i != TIDY_RTS && i != TIDY_UNKNOWN;
         if (tally->with_events[i] == 0 || (can_be_cut && tally->cut_with_events[i] == 0))
@@ -1108,7 +1183,7 @@ int main(int argc, char **argv)
     uint64_t seed = argc > 1 ? strtoull(argv[1], NULL, 0) : 2515;
     bool show = argc > 2 && strcmp(argv[2], "show") == 0;
     struct tidy_tally tally = {0};
-    struct rarest rarest;
+    struct rarest rarest, rarest_match;
     printf("model tests, seed %llu\n", (unsigned long long)seed);
     test_data_bytes();
     test_fixed_cases();
@@ -1119,6 +1194,7 @@ int main(int argc, char **argv)
     test_unreached_counters();
     test_unreached_length_codes();
     test_unreached_resets(seed);
+    test_unreached_matches(seed);
     test_no_ninth_byte();
     test_power_on();
     test_held_and_read();
@@ -1130,7 +1206,7 @@ int main(int argc, char **argv)
     test_generator(seed);
     test_every_step(seed);
     test_demand_3(seed, &tally);
-    test_coverage(seed, &tally, &rarest, show);
+    test_coverage(seed, &tally, &rarest, &rarest_match, show);
     if (failures) {
         printf("%u failures\n", failures);
         return 1;
@@ -1139,5 +1215,7 @@ int main(int argc, char **argv)
            case_count(), tidied_moved + tidied_stayed, tidied_moved);
     printf("frames stored by source, form and length code: the rarest %lu times (%s)\n",
            rarest.count, rarest.sort);
+    printf("corners of the match rule: the rarest decides %lu frames (%s)\n", rarest_match.count,
+           rarest_match.sort);
     return 0;
 }
