@@ -14,20 +14,10 @@ struct asked {
     uint8_t answer;
 };
 
-/* The answer, had exactly these filters matched. */
-static uint8_t answer_by(const struct asked *a, unsigned set)
-{
-    struct model m = *a->m;
-    uint8_t refusal, answer;
-    for (unsigned n = 0; n < MATCH_FILTERS; n++)
-        match_put_filter(&m, n, a->frame.bits ^ (set >> n & 1 ? 0 : MATCH_EXIDE));
-    model_step(&m, a->record, &refusal, &answer);
-    return answer;
-}
-
+/* With exactly these filters matching, the answer would be another one. */
 static bool decides(const struct asked *a, unsigned set)
 {
-    return set != a->set && answer_by(a, set) != a->answer;
+    return set != a->set && match_answer(a->m, a->record, &a->frame, set) != a->answer;
 }
 
 static void count_if(struct cover *c, bool condition, unsigned point)
@@ -93,7 +83,7 @@ void cover_match(struct cover *c, const struct model *before, const uint8_t *rec
     struct asked a = {.m = before, .record = record, .answer = answer};
     a.frame = record[0] == KIND_FRAME ? match_heard(record) : match_own(before, before->flight);
     a.set = match_set(before, &a.frame);
-    c->matched_otherwise += answer_by(&a, a.set) != answer;
+    c->matched_otherwise += match_answer(before, record, &a.frame, a.set) != answer;
     if (a.frame.bits & MATCH_EXIDE)
         extended_frame(c, &a);
     else

@@ -1,8 +1,9 @@
 /*
  * The live calls against the second model: random logs record by record with
  * INT after each, by run_from in pieces, as text by render; random bytes as a
- * chip; every refusal of every call. The first difference ends the run with
- * status 1. What was met is counted, and none of it may be missing.
+ * chip, and as filters and masks; every refusal of every call. The first
+ * difference ends the run with status 1. What was met is counted, and none of
+ * it may be missing.
  *
  *   live [records [seed]]
  */
@@ -15,6 +16,7 @@
 
 #include "chip_bytes.h"
 #include "gen.h"
+#include "match.h"
 #include "registers.h"
 
 enum {
@@ -43,6 +45,9 @@ static unsigned long long resets[2];                      /* [1]: on random chip
 static unsigned long long int_lines[2], modes[MODES], opens[OPEN_SPENT + 1];
 static unsigned long long waits, flights, bus_offs, hidden, addresses, wrong_versions,
     wrong_lengths, random_chips, pieces, parts[REFUSALS];
+static unsigned long long junk_decides[3]; /* SIDL bits 4, 3, 2 of mask and filter */
+static unsigned long long srr_decides;     /* SIDL bit 4 of the mask, not of the filter */
+static unsigned long long exide_decides[2]; /* by SIDL bit 3 of the mask */
 static unsigned long long refused_parts[2]; /* each record run refused; [1]: random chips */
 
 _Noreturn void live_stop(const char *what)
@@ -119,6 +124,13 @@ static void demand_all(void)
     demand("random chip", random_chips);
     demand("random bytes of another version", wrong_versions);
     demand("random bytes of another length", wrong_lengths);
+    for (unsigned i = 0; i < 3; i++) {
+        char text[64];
+        snprintf(text, sizeof text, "SIDL bit %u of mask and filter would decide", 4 - i);
+        demand(text, junk_decides[i]);
+    }
+    demand("SIDL bit 4 of the mask would, as SRR", srr_decides);
+    demand_numbers("EXIDE decides, that bit of the mask is", exide_decides, 2);
     demand("piece of a log by run_from", pieces);
     demand("part of a text that goes on", parts[0]);
     demand("part of a text that ends in refusal 6", parts[REFUSED_RAGGED]);
@@ -477,6 +489,119 @@ static void random_start(uint8_t *log, char *text)
         refuse_bytes();
 }
 
+/* ---- any bytes in filters and masks ---- */
+
+static void write_register(struct pair *p, uint8_t address, uint8_t value)
+{
+    uint8_t bytes[] = {SPI_WRITE, address, value}, record[RECORD_BYTES] = {KIND_SELECT_LOW};
+    step_pair(p, record);
+    for (unsigned i = 0; i < sizeof bytes; i++) {
+        record[0] = KIND_EXCHANGE;
+        record[1] = bytes[i];
+        step_pair(p, record);
+    }
+    record[0] = KIND_SELECT_HIGH;
+    record[1] = 0;
+    step_pair(p, record);
+}
+
+/* A chip in this mode with any bytes in filters and masks, also where WRITE sets none. */
+static void junk_chip(struct pair *p, uint8_t mode)
+{
+    start_pair(p);
+    write_register(p, CANCTRL, (uint8_t)(mode << 5));
+    for (unsigned a = RXF0SIDH; a < CNF3; a++)
+        if ((a & 0x0F) < BFPCTRL)
+            p->chip[a] = (uint8_t)(below(3) ? below(256) : below(256) & below(256));
+    p->random = true;
+    chip_decode(p->chip, &p->m);
+}
+
+/* Counts what would answer otherwise if masks counted as they stand: SIDL bits
+ * 4, 3 and 2 too, where a frame has 0, or at bit 4 the SRR of a standard remote
+ * frame; and EXIDE, where it alone keeps a frame out, only under bit 3. */
+static void count_junk(const struct model *m, const uint8_t *record, const struct match_frame *f,
+                       bool remote, uint8_t answer)
+{
+    unsigned set = match_set(m, f);
+    for (unsigned n = 0; n < MATCH_FILTERS; n++) {
+        uint32_t filter = match_filter(m, n), mask = match_mask(m, match_mask_of(n));
+        uint32_t srr = remote && !(f->bits & MATCH_EXIDE) ? (uint32_t)SRR << 16 : 0;
+        bool matches = set >> n & 1, alone = match_differs(filter, mask, f) == MATCH_EXIDE;
+        if ((!matches && !alone) || match_answer(m, record, f, set ^ 1u << n) == answer)
+            continue;
+        for (unsigned i = 0; matches && i < 3; i++)
+            junk_decides[i] += filter >> (20 - i) & mask >> (20 - i) & 1;
+        srr_decides += matches && (~filter & mask & srr) != 0;
+        if (alone)
+            exide_decides[(mask & MATCH_EXIDE) != 0]++;
+    }
+}
+
+static void hear_pair(struct pair *p, const uint8_t *record, const struct match_frame *f,
+                      bool remote)
+{
+    struct model after = p->m;
+    uint8_t refusal, answer;
+    model_step(&after, record, &refusal, &answer);
+    count_junk(&p->m, record, f, remote, answer);
+    step_pair(p, record);
+}
+
+/* A word that a filter has, but for a bit or two. */
+static uint32_t near_word(const struct model *m)
+{
+    uint32_t word = match_filter(m, below(MATCH_FILTERS));
+    for (unsigned n = below(3); n > 0; n--)
+        word ^= 1u << below(32);
+    return word;
+}
+
+static void hear_near(struct pair *p)
+{
+    uint8_t record[RECORD_BYTES], remote = below(3) ? 0 : FRAME_REMOTE;
+    uint32_t word = near_word(&p->m);
+    match_record(record, remote | (word & MATCH_EXIDE ? FRAME_EXTENDED : 0),
+                 (uint8_t)below(below(2) ? 3 : LENGTH_CODE_MAX + 1), word);
+    struct match_frame frame = match_heard(record);
+    hear_pair(p, record, &frame, remote);
+}
+
+/* Sent in Loopback, from a buffer with bytes that LOAD TX BUFFER does not make. */
+static void send_near(struct pair *p)
+{
+    uint8_t idle[RECORD_BYTES] = {KIND_BUS_IDLE}, end[RECORD_BYTES] = {KIND_FRAME_ENDS};
+    uint32_t word = near_word(&p->m);
+    write_register(p, TXB1CTRL, TXREQ);
+    step_pair(p, idle);
+    for (unsigned i = 0; i < 4; i++)
+        p->chip[TXB1CTRL + SIDH + i] = (uint8_t)(word >> (24 - 8 * i));
+    p->chip[TXB1CTRL + DLC] = (uint8_t)below(256) & (below(2) ? 0xF3 : 0xFF);
+    for (unsigned i = 0; i < DATA_BYTES_MAX; i++)
+        p->chip[TXB1CTRL + D0 + i] = (uint8_t)(i == 0 ? word >> 8 : i == 1 ? word : below(256));
+    if (!(word & MATCH_EXIDE)) /* the filters see the data instead */
+        p->chip[TXB1CTRL + EID8 + below(2)] = (uint8_t)below(256);
+    chip_decode(p->chip, &p->m);
+    struct match_frame frame = match_own(&p->m, 1);
+    hear_pair(p, end, &frame, p->chip[TXB1CTRL + DLC] & RTR);
+}
+
+static void junk_in_filters(void)
+{
+    static const uint8_t modes_heard[] = {MODE_NORMAL, MODE_LISTEN_ONLY, MODE_LOOPBACK};
+    struct pair p;
+    uint8_t mode = modes_heard[below(sizeof modes_heard)];
+    junk_chip(&p, mode);
+    for (unsigned i = 0; i < 30; i++) {
+        if (mode == MODE_LOOPBACK)
+            send_near(&p);
+        else
+            hear_near(&p);
+        if (below(2))
+            write_register(&p, CANINTF, 0);
+    }
+}
+
 /* ---- two threads at once ---- */
 
 struct worker {
@@ -549,6 +674,8 @@ int main(int argc, char **argv)
         text_of_log(log, text);
         for (unsigned i = 0; i < 30; i++)
             random_start(log, text);
+        for (unsigned i = 0; i < 3; i++)
+            junk_in_filters();
     }
     check_threads(log);
     demand_all();

@@ -94,7 +94,7 @@ uint32_t match_filter(const struct model *m, unsigned n)
     return word_at(m, filter_at(n));
 }
 
-void match_put_filter(struct model *m, unsigned n, uint32_t word)
+static void put_filter(struct model *m, unsigned n, uint32_t word)
 {
     for (unsigned i = 0; i < 4; i++)
         m->reg[filter_at(n) + i] = (uint8_t)(word >> (24 - 8 * i));
@@ -122,6 +122,17 @@ unsigned match_set(const struct model *m, const struct match_frame *f)
         if (match_differs(match_filter(m, n), match_mask(m, match_mask_of(n)), f) == 0)
             set |= 1u << n;
     return set;
+}
+
+uint8_t match_answer(const struct model *m, const uint8_t *record, const struct match_frame *f,
+                     unsigned set)
+{
+    struct model other = *m;
+    uint8_t refusal, answer;
+    for (unsigned n = 0; n < MATCH_FILTERS; n++)
+        put_filter(&other, n, f->bits ^ (set >> n & 1 ? 0 : MATCH_EXIDE));
+    model_step(&other, record, &refusal, &answer);
+    return answer;
 }
 
 unsigned match_bit(bool extended, unsigned place)

@@ -31,7 +31,6 @@ struct match_frame match_heard(const uint8_t *record);
 struct match_frame match_own(const struct model *m, unsigned n);
 
 uint32_t match_filter(const struct model *m, unsigned n);
-void match_put_filter(struct model *m, unsigned n, uint32_t word);
 
 /* Mask 0 or 1, and the number of the one for filter n. */
 uint32_t match_mask(const struct model *m, unsigned number);
@@ -42,6 +41,11 @@ uint32_t match_differs(uint32_t filter, uint32_t mask, const struct match_frame 
 
 /* All filters that match, bit n for filter n. */
 unsigned match_set(const struct model *m, const struct match_frame *f);
+
+/* The model's answer to the record of this frame, heard or sent, had exactly these
+ * filters matched. */
+uint8_t match_answer(const struct model *m, const uint8_t *record, const struct match_frame *f,
+                     unsigned set);
 
 /* The number (below MATCH_BITS) of a bit at this place of the word, and its name. */
 unsigned match_bit(bool extended, unsigned place);
