@@ -15,6 +15,7 @@
 #include "model.h"
 #include "registers.h"
 #include "script.h"
+#include "speed_logs.h"
 #include "tidy.h"
 
 static unsigned failures;
@@ -399,6 +400,17 @@ static void test_unreached_resets(uint64_t state)
         if (difference)
             fail(__FILE__, __LINE__, "chip %u after RESET: %s differs", i, difference);
     }
+}
+
+static void test_unreached(uint64_t seed)
+{
+    test_unreached_requests();
+    test_unreached_abort();
+    test_unreached_flights();
+    test_unreached_counters();
+    test_unreached_length_codes();
+    test_unreached_resets(seed);
+    test_unreached_matches(seed);
 }
 
 /* The one definition that model and generator share, against the rule's words.
@@ -1024,6 +1036,50 @@ static void test_generator(uint64_t seed)
     EXPECT("another seed, another log", false, memcmp(one, two, sizeof one) == 0);
 }
 
+/* The filters that a frame of the speed logs is asked by: all differ, and all
+ * but filter hit compare it to its last bit and fail there. */
+static void check_asked_filters(const struct model *m, const uint8_t *record, unsigned hit)
+{
+    struct match_frame frame = match_heard(record);
+    for (unsigned n = 0; n < MATCH_FILTERS; n++) {
+        uint32_t filter = match_filter(m, n), mask = match_mask(m, match_mask_of(n));
+        EXPECT("a filter fails at the last bit alone", n != hit,
+               match_differs(filter, mask, &frame));
+        for (unsigned other = 0; other < n; other++)
+            EXPECT("a filter differs from another", true, filter != match_filter(m, other));
+    }
+    EXPECT("EID0 is shown", 0xFF, frame.reached & 0xFF);
+}
+
+/* What the logs of speed.c are made for; hit is the filter that matches, or 6. */
+static void check_speed_log(size_t (*make)(uint64_t, uint8_t *, size_t), unsigned hit)
+{
+    enum { RECORDS = 10000 };
+    uint8_t *log = malloc(RECORD_BYTES * RECORDS);
+    size_t frames = 0, extended = 0, stored = 0, counted = make(2515, log, RECORDS);
+    struct model m;
+    model_power_on(&m);
+    for (size_t i = 0; i < RECORDS && failures == 0; i++) {
+        const uint8_t *record = log + RECORD_BYTES * i;
+        struct model before = m;
+        uint8_t refusal, answer;
+        model_step(&m, record, &refusal, &answer);
+        EXPECT("refusal in a speed log", REFUSED_NOT, refusal);
+        if (record[0] != KIND_FRAME)
+            continue;
+        check_asked_filters(&before, record, hit);
+        EXPECT("matched", hit < MATCH_FILTERS, answer == RX_IN_RXB1 || answer == RX_LOST);
+        frames++;
+        extended += record[1] & FRAME_EXTENDED;
+        stored += answer == RX_IN_RXB1;
+    }
+    EXPECT("frames counted", counted, frames);
+    EXPECT("mostly frames", true, frames > RECORDS * 8 / 10);
+    EXPECT("of both sorts", true, extended > frames / 3 && extended < frames - frames / 3);
+    EXPECT("stored", hit < MATCH_FILTERS, stored > frames / 50);
+    free(log);
+}
+
 static void check_buffer_sessions(const struct cover *c, bool show)
 {
     for (unsigned i = 0; i < COVER_BUFFER_CODES; i++)
@@ -1188,13 +1244,7 @@ int main(int argc, char **argv)
     test_data_bytes();
     test_fixed_cases();
     test_whole_log_rule();
-    test_unreached_requests();
-    test_unreached_abort();
-    test_unreached_flights();
-    test_unreached_counters();
-    test_unreached_length_codes();
-    test_unreached_resets(seed);
-    test_unreached_matches(seed);
+    test_unreached(seed);
     test_no_ninth_byte();
     test_power_on();
     test_held_and_read();
@@ -1204,6 +1254,8 @@ int main(int argc, char **argv)
     test_tidied_by_hand();
     test_tidied_lists();
     test_generator(seed);
+    check_speed_log(late_log, MATCH_FILTERS);
+    check_speed_log(last_log, 5);
     test_every_step(seed);
     test_demand_3(seed, &tally);
     test_coverage(seed, &tally, &rarest, &rarest_match, show);

@@ -1,0 +1,125 @@
+#include "speed_logs.h"
+
+#include <stdbool.h>
+#include <string.h>
+
+#include "gen.h"
+#include "match.h"
+#include "model.h"
+#include "registers.h"
+
+/* A log in the making; what does not fit any more is left out. */
+struct writer {
+    uint64_t dice;
+    uint8_t *log;
+    size_t records;
+    size_t written;
+    size_t frames;
+};
+
+static unsigned below(struct writer *w, unsigned n)
+{
+    return (unsigned)((gen_next(&w->dice) >> 33) % n);
+}
+
+static uint32_t any_word(struct writer *w)
+{
+    return (uint32_t)(gen_next(&w->dice) >> 16);
+}
+
+static void put(struct writer *w, const uint8_t record[RECORD_BYTES])
+{
+    if (w->written == w->records)
+        return;
+    memcpy(w->log + RECORD_BYTES * w->written++, record, RECORD_BYTES);
+    w->frames += record[0] == KIND_FRAME;
+}
+
+static void put_kind(struct writer *w, uint8_t kind, uint8_t byte1)
+{
+    uint8_t record[RECORD_BYTES] = {kind, byte1};
+    put(w, record);
+}
+
+static void write_words(struct writer *w, uint8_t address, const uint32_t *words, unsigned count)
+{
+    put_kind(w, KIND_SELECT_LOW, 0);
+    put_kind(w, KIND_EXCHANGE, SPI_WRITE);
+    put_kind(w, KIND_EXCHANGE, address);
+    for (unsigned i = 0; i < 4 * count; i++)
+        put_kind(w, KIND_EXCHANGE, (uint8_t)(words[i / 4] >> (24 - 8 * (i % 4))));
+    put_kind(w, KIND_SELECT_HIGH, 0);
+}
+
+static void write_byte(struct writer *w, uint8_t address, uint8_t value)
+{
+    put_kind(w, KIND_SELECT_LOW, 0);
+    put_kind(w, KIND_EXCHANGE, SPI_WRITE);
+    put_kind(w, KIND_EXCHANGE, address);
+    put_kind(w, KIND_EXCHANGE, value);
+    put_kind(w, KIND_SELECT_HIGH, 0);
+}
+
+/* Left out by both masks: a bit each of SIDH, SIDL and EID8, so that there are
+ * eight different words for six filters. */
+enum { IN_SIDH = 0x10000000, IN_SIDL = 0x00400000, IN_EID8 = 0x00000200 };
+static const uint32_t left_out = IN_SIDH | IN_SIDL | IN_EID8;
+
+static uint32_t left_out_by(unsigned n)
+{
+    return (n & 1 ? IN_SIDH : 0) | (n & 2 ? IN_SIDL : 0) | (n & 4 ? IN_EID8 : 0);
+}
+
+/* Filters for frames with this word, all but the last bit; filter hit has it too. */
+static void configure(struct writer *w, uint32_t word, unsigned hit)
+{
+    uint32_t filters[MATCH_FILTERS], masks[2] = {~left_out, ~left_out};
+    for (unsigned n = 0; n < MATCH_FILTERS; n++)
+        filters[n] = ((word & ~left_out) | left_out_by(n)) ^ (n != hit);
+    write_byte(w, CANCTRL, MODE_CONFIGURATION << 5 | 7);
+    write_words(w, RXF0SIDH, &filters[0], 3);
+    write_words(w, RXF3SIDH, &filters[3], 3);
+    write_words(w, RXM0SIDH, masks, 2);
+    write_byte(w, CANCTRL, MODE_NORMAL << 5 | 7);
+}
+
+/* Frames differ in the bits left out, in length and in the data not compared. */
+static void put_frame(struct writer *w, uint32_t word)
+{
+    uint8_t record[RECORD_BYTES];
+    bool extended = word & MATCH_EXIDE;
+    uint8_t code = (uint8_t)(extended ? below(w, 9) : 2 + below(w, 7));
+    match_record(record, extended ? FRAME_EXTENDED : 0, code, word ^ (any_word(w) & left_out));
+    for (unsigned i = extended ? 0 : 2; i < code; i++)
+        record[8 + i] = (uint8_t)below(w, 256);
+    put(w, record);
+}
+
+static size_t frames_log(uint64_t seed, uint8_t *log, size_t records, unsigned hit)
+{
+    struct writer w = {.dice = seed, .log = log, .records = records};
+    bool extended = seed & 1;
+    while (w.written < records) {
+        uint32_t word = extended ? any_word(&w) | MATCH_EXIDE : any_word(&w) & ~MATCH_EXIDE;
+        configure(&w, word, hit);
+        for (unsigned left = 600 + below(&w, 400), full = 0; left > 0; left--) {
+            if (hit < MATCH_FILTERS && full-- == 0) {
+                write_byte(&w, CANINTF, 0);
+                full = 16 + below(&w, 32);
+            }
+            put_frame(&w, word);
+        }
+        extended = !extended;
+    }
+    return w.frames;
+}
+
+size_t late_log(uint64_t seed, uint8_t *log, size_t records)
+{
+    return frames_log(seed, log, records, MATCH_FILTERS);
+}
+
+size_t last_log(uint64_t seed, uint8_t *log, size_t records)
+{
+    return frames_log(seed, log, records, 5);
+}

@@ -1,0 +1,26 @@
+/*
+ * Logs that are mostly frames which all six filters are asked for, and which
+ * each of them compares to the last bit.
+ */
+#ifndef BENCH_SPEED_LOGS_H
+#define BENCH_SPEED_LOGS_H
+
+#include <stddef.h>
+#include <stdint.h>
+
+/*
+ * The filters of a stretch differ from one another, but only in bits that their
+ * masks leave out. A frame agrees with each filter in all bits compared but the
+ * last one (bit 0 of EID0). Stretches of extended frames and of standard data
+ * frames with two bytes or more take turns, each with its own filters; a filter
+ * of the other sort would fail at once. Returns the number of frames.
+ */
+size_t late_log(uint64_t seed, uint8_t *log, size_t records);
+
+/*
+ * The same, but filter 5 has that last bit too and so matches. The firmware
+ * clears RX1IF now and then; a frame is stored after that, the others are lost.
+ */
+size_t last_log(uint64_t seed, uint8_t *log, size_t records);
+
+#endif
