@@ -150,18 +150,18 @@
     X(INT_WAKIF, "INT falls, by WAKIF alone")                           \
     X(INT_MERRF, "INT falls, by MERRF alone")                           \
     X(ENDS_OPEN, "log ends in an open session")                         \
-    X(MATCH_EID17_16, "standard frame, EID17-16 would decide")          \
-    X(MATCH_OWN_EID17_16, "the same, sent with EID17-16 in its buffer") \
-    X(MATCH_OWN_EID, "sent standard, its EID8 and EID0 would decide")   \
-    X(MATCH_EXTENDED_DATA, "extended frame, its data would decide")     \
-    X(MATCH_EXIDE_STANDARD, "EXIDE keeps out a standard frame, mask 0") \
-    X(MATCH_EXIDE_EXTENDED, "lack of EXIDE an extended one, mask 0")    \
-    X(MATCH_MASK_0, "RXF0 would decide by mask 1")                      \
-    X(MATCH_MASK_1, "RXF1 would decide by mask 1")                      \
-    X(MATCH_MASK_2, "RXF2 would decide by mask 0")                      \
-    X(MATCH_MASK_3, "RXF3 would decide by mask 0")                      \
-    X(MATCH_MASK_4, "RXF4 would decide by mask 0")                      \
-    X(MATCH_MASK_5, "RXF5 would decide by mask 0")
+    X(MATCH_EID17_16, "EID17-16 of a standard frame")                   \
+    X(MATCH_OWN_EID17_16, "EID17-16 of a sent standard frame")          \
+    X(MATCH_OWN_EID, "EID8 and EID0 of a sent standard frame")          \
+    X(MATCH_EXTENDED_DATA, "data of an extended frame")                 \
+    X(MATCH_EXIDE_STANDARD, "EXIDE, all mask bits 0, standard frame")   \
+    X(MATCH_EXIDE_EXTENDED, "no EXIDE, all mask bits 0, extended frame")\
+    X(MATCH_MASK_0, "mask 1 instead of 0 for RXF0")                     \
+    X(MATCH_MASK_1, "mask 1 instead of 0 for RXF1")                     \
+    X(MATCH_MASK_2, "mask 0 instead of 1 for RXF2")                     \
+    X(MATCH_MASK_3, "mask 0 instead of 1 for RXF3")                     \
+    X(MATCH_MASK_4, "mask 0 instead of 1 for RXF4")                     \
+    X(MATCH_MASK_5, "mask 0 instead of 1 for RXF5")
 
 enum cover_point {
 #define COVER_ENUM(name, text) COVER_##name,

@@ -36,7 +36,8 @@ static void standard_frame(struct cover *c, const struct asked *a)
         return;
     const uint8_t *buffer = &a->m->reg[TXB0CTRL + 0x10 * a->m->flight];
     more.bits |= (uint32_t)(buffer[SIDL] & EID_HIGH) << 16;
-    count_if(c, decides(a, match_set(a->m, &more)), COVER_MATCH_OWN_EID17_16);
+    count_if(c, more.bits != a->frame.bits && decides(a, match_set(a->m, &more)),
+             COVER_MATCH_OWN_EID17_16);
     more = a->frame;
     more.bits = (more.bits & ~0xFFFFu) | (uint32_t)(buffer[EID8] << 8 | buffer[EID0]);
     more.reached |= 0xFFFF;

@@ -302,6 +302,29 @@ static void test_unreached_length_codes(void)
     }
 }
 
+/* Bits 4 and 2 of a SIDL byte are no part of the identifier, of whatever chip; bits 1-0
+ * and the EID bytes are none of a standard one. */
+static void test_unreached_identifiers(void)
+{
+    for (unsigned sidl = 0; sidl < 256; sidl++) {
+        struct model m = chip_in(MODE_LOOPBACK);
+        bool extended = sidl & IDE;
+        m.flight = 0;
+        m.reg[RXB0CTRL] = RXM;
+        m.reg[TXB0CTRL + SIDL] = (uint8_t)sidl;
+        m.reg[TXB0CTRL + EID8] = 0x56;
+        m.reg[TXB0CTRL + EID0] = 0x78;
+        struct model want = with_rxb0(m, false, 0, NULL);
+        want.flight = NO_FLIGHT;
+        want.reg[CANINTF] |= TX0IF;
+        want.reg[RXB0CTRL + SIDL] = (uint8_t)(sidl & (extended ? 0xEB : 0xE0));
+        want.reg[RXB0CTRL + EID8] = extended ? 0x56 : 0;
+        want.reg[RXB0CTRL + EID0] = extended ? 0x78 : 0;
+        struct model after = step(m, KIND_FRAME_ENDS, END_SENT, REFUSED_NOT, RX_IN_RXB0);
+        EXPECT("the chip after any SIDL byte was sent", 0, memcmp(&want, &after, sizeof want));
+    }
+}
+
 /* A ninth byte behind the record is not looked at and not stored. */
 static void check_no_ninth_byte(bool remote, uint8_t length_code)
 {
@@ -348,7 +371,7 @@ static void test_unreached_matches(uint64_t state)
         uint32_t filter = match_filter(&m, i % MATCH_FILTERS);
         uint8_t remote = dice >> 40 & 3 ? 0 : FRAME_REMOTE, length_code = dice >> 44 & 3;
         uint8_t extended = filter & MATCH_EXIDE ? FRAME_EXTENDED : 0;
-        match_record(record, (dice >> 50) % 16 ? remote | extended : remote | !extended,
+        match_record(record, remote | ((dice >> 50) % 16 ? extended : extended ^ FRAME_EXTENDED),
                      length_code, dice & 64 ? filter : filter ^ 1u << dice % 32);
         struct match_frame frame = match_heard(record);
         unsigned set = match_set(&m, &frame), hit = set ? (unsigned)__builtin_ctz(set) : 0;
@@ -409,6 +432,7 @@ static void test_unreached(uint64_t seed)
     test_unreached_flights();
     test_unreached_counters();
     test_unreached_length_codes();
+    test_unreached_identifiers();
     test_unreached_resets(seed);
     test_unreached_matches(seed);
 }
@@ -1210,7 +1234,7 @@ static void test_coverage(uint64_t seeds, const struct tidy_tally *tally, struct
         cover_log(&c, log, RECORDS);
     }
     free(log);
-    for (unsigned i = 0; i < COVER_POINTS; i++) {
+    for (unsigned i = 0; i < COVER_MATCH_EID17_16; i++) { /* the others by check_match */
         if (c.count[i] == 0)
             fail(__FILE__, __LINE__, "random logs: expected \"%s\" to happen, got none",
                  cover_text[i]);
