@@ -1,7 +1,7 @@
 // One byte: its bits, and the changes that a register takes.
 ghost use mathlib.Core.Path.{_≡_};
 ghost use mathlib.Core.Bool.{cond};
-ghost use Rattle.bits.specs.Bit.{hasBit, powerOf, setBit, merged, written, agreeUnder};
+ghost use Rattle.bits.specs.Bit.{hasBit, powerOf, setBit, merged, written};
 
 // Whether bit k is 1; a byte has none from 8 on.
 pub fn has(x: u8, k: u8) -> bool
@@ -41,11 +41,4 @@ pub fn write(takes: bool, mask: u8, old: u8, new: u8) -> u8
     ensures { λ r. ⌜ r ≡ written takes mask old new ⌝ }
 {
     choose(takes, merge(mask, old, new), old)
-}
-
-// Whether two bytes agree in every bit of mask.
-pub fn agree(mask: u8, a: u8, b: u8) -> bool
-    ensures { λ r. ⌜ r ≡ agreeUnder mask a b ⌝ }
-{
-    a & mask == b & mask
 }

@@ -38,7 +38,7 @@ use Rattle.receiving.specs.declared.Hit.{Hit}
 use Rattle.receiving.specs.declared.Hit.the-variants.{Filter, Miss}
 use Rattle.receiving.specs.declared.Verdict.{Verdict}
 use Rattle.receiving.specs.declared.Verdict.the-variants.{Unmatched, Stored0, Stored1, RolledOver, Lost0, Lost1}
-use Rattle.receiving.specs.Receiving.{Received, keyOf, hitFor, isFull, verdictBy, verdictOf, controlAfter, filled, headed, bytesStored, bytesAfter, receivedOf}
+use Rattle.receiving.specs.Receiving.{Received, matches, hitFor, isFull, verdictBy, verdictOf, controlAfter, filled, headed, bytesStored, bytesAfter, receivedOf}
 use Rattle.controller.specs.declared.Choice.the-variants.{Send, Nobody}
 use Rattle.controller.specs.declared.End.{End}
 use Rattle.controller.specs.declared.End.the-variants.{Sent, LostArbitration, Failed}
@@ -282,7 +282,7 @@ spares-by c Miss (Filter h) Rxb1 e = rw e
 
 spares : (k : Core) (f : Frame) (b : RxBuffer) → isFull (k .control) b ≡ true → fills (verdictOf (k .control) (k .config) f) b ≡ false
 unfolding verdictOf
-spares k f b h = spares-by (k .control) (hitFor (k .control) (k .config) (keyOf f) Rxb0) (hitFor (k .control) (k .config) (keyOf f) Rxb1) b h
+spares k f b h = spares-by (k .control) (hitFor (k .control) (matches (k .config) f) Rxb0) (hitFor (k .control) (matches (k .config) f) Rxb1) b h
 
 -- a store into a buffer whose bytes lie from at on leaves every byte but its 13
 module _ (rx : List ℕ) (at : ℕ) (f : Frame) (j : ℕ) (apart : (n : ℕ) → n < 14 → j ≡ at + n → ⊥) where

@@ -10,7 +10,7 @@ use Rattle.registers.specs.Errors.{errorFlags, movedTo}
 use Rattle.registers.specs.Modes.{entered, freeToChange, settled}
 use Rattle.registers.specs.Registers.{regionOf, writableOf, powerOnCore, holds, reads}
 use Rattle.stores.specs.Store.{txStored, requestedOf, aborted, canctrlStored, stored}
-use Rattle.receiving.specs.Receiving.{keyOf, matches, lowestFrom, hitFor, verdictOf, bytesStored, receivedOf}
+use Rattle.receiving.specs.Receiving.{matches, lowestFrom, hitFor, verdictOf, bytesStored, receivedOf}
 use Rattle.controller.specs.Sending.{bestOf, choiceOf}
 use Rattle.controller.specs.Events.{heardOf, idled, errorHeard, eventRefusal, eventOf}
 use Rattle.registers.specs.declared.Flags.{Flags}
@@ -61,7 +61,7 @@ normal = low ∷ byte 0x02 ∷ byte 0x0F ∷ byte 0x00 ∷ high ∷ []
 -- To open this is to open all that a run looks through.
 tidied : List (List ℕ) → List (List ℕ)
 unfolding kindOf frameOf soundOf errorFlags movedTo entered freeToChange settled regionOf writableOf powerOnCore holds reads
-    txStored requestedOf aborted canctrlStored stored keyOf matches lowestFrom hitFor verdictOf bytesStored receivedOf bestOf choiceOf
+    txStored requestedOf aborted canctrlStored stored matches lowestFrom hitFor verdictOf bytesStored receivedOf bestOf choiceOf
     heardOf idled errorHeard eventRefusal eventOf bufferCommand commandOf powerOn asked turned stepOf chipAfter outcomes roleOf trace listed events
     others bytes before after placed session tidyFrom tidy records outs
 tidied rs = records (tidy 0 (trace powerOn rs))

@@ -1,5 +1,5 @@
 -- The look for the lowest match, one filter at a time. Assumes nothing.
-use mathlib.Core.Path.{_≡_, refl}
+use mathlib.Core.Path.{_≡_, refl, ap₂}
 use mathlib.Core.Bool.{Bool, true, false, cond}
 use mathlib.Core.List.{List}
 use Prim.Native.Nat.{ℕ, zero, suc, _+_, _-_, _<_, _≤_}
@@ -8,9 +8,11 @@ use native.Mathlib.Numerals.{add-one}
 use lib.Dec.{ltb}
 use lib.ListN.{take}
 use lib.Seq.{getD-take}
+use Rattle.bits.specs.Bit.{agreeUnder}
 use Rattle.receiving.specs.declared.Key.{Key}
 use Rattle.receiving.specs.declared.Hit.the-variants.{Filter, Miss}
-use Rattle.receiving.specs.Receiving.{filterAt, maskAt, matches, lowestFrom}
+use Rattle.receiving.specs.Receiving.{SIDH, SIDL, EID8, EID0, filterAt, maskAt, lowestFrom}
+use Rattle.receiving.specs.Words.{wordAt, counted, wordMatches}
 
 one-more : (i e : ℕ) → i < e → e - i ≡ suc (e - (i + 1))
 one-more i e h = omega arith
@@ -39,13 +41,23 @@ mask-low n = go (ltb n 2)
     go false = omega arith
 
 module _ (m : List ℕ) (q : Key) where
-  matches-take : (n : ℕ) → n < 6 → matches (take 48 m) q n ≡ matches m q n
-  unfolding matches
-  matches-take n h =
-      let k : maskAt n ≤ 36 = mask-low n in
-      rw (getD-take 48 m (filterAt n) 0 (omega arith), getD-take 48 m (filterAt n + 1) 0 (omega arith), getD-take 48 m (filterAt n + 2) 0 (omega arith), getD-take 48 m (filterAt n + 3) 0 (omega arith), getD-take 48 m (maskAt n) 0 (omega arith), getD-take 48 m (maskAt n + 1) 0 (omega arith), getD-take 48 m (maskAt n + 2) 0 (omega arith), getD-take 48 m (maskAt n + 3) 0 (omega arith))
+  word-take : (at : ℕ) → at ≤ 44 → wordAt (take 48 m) at ≡ wordAt m at
+  word-take at h =
+      rw (getD-take 48 m (at + SIDH) 0 (omega arith), getD-take 48 m (at + SIDL) 0 (omega arith), getD-take 48 m (at + EID8) 0 (omega arith), getD-take 48 m (at + EID0) 0 (omega arith))
 
-  pub lowest-take : (i n : ℕ) → i + n ≤ 6 → lowestFrom (matches (take 48 m) q) i n ≡ lowestFrom (matches m q) i n
+  matches-take : (n : ℕ) → n < 6 → wordMatches (take 48 m) q n ≡ wordMatches m q n
+  unfolding wordMatches
+  matches-take n h =
+      ap₂ (λ (mask filter : ℕ). agreeUnder (counted mask (q .reach)) filter (q .word))
+      (word-take (maskAt n) (omega (arith, mask-low n))) (word-take (filterAt n) (omega arith))
+
+  pub lowest-take : (i n : ℕ) → i + n ≤ 6 → lowestFrom (wordMatches (take 48 m) q) i n ≡ lowestFrom (wordMatches m q) i n
   unfolding lowestFrom
   lowest-take i zero h = refl
   lowest-take i (suc n) h = rw (matches-take i (omega arith), lowest-take (suc i) n (omega arith))
+
+-- ---- two tests that agree find the same filter
+pub lowest-same : {f g : ℕ → Bool} → ((n : ℕ) → f n ≡ g n) → (i n : ℕ) → lowestFrom f i n ≡ lowestFrom g i n
+unfolding lowestFrom
+lowest-same e i zero = refl
+lowest-same e i (suc n) = rw (e i, lowest-same e (suc i) n)

@@ -1,11 +1,12 @@
 -- Receiving: a frame's register bytes, which filter matches, which buffer takes the frame, what is stored and what is lost.
-use Prim.Native.Nat.{ℕ, zero, suc, _+_, _*_, _/_, _%_}
+use Prim.Native.Nat.{ℕ, zero, suc, _+_, _-_, _*_, _/_, _%_, _<_}
 use mathlib.Core.Bool.{Bool, cond, not, _&&_, _||_}
-use mathlib.Core.List.{List}
+use mathlib.Core.List.{List, [], _∷_}
+use mathlib.Core.Path.{_≡_}
 use lib.Dec.{eqb, ltb}
-use lib.Bits.{bitAnd, bitOr}
+use lib.Bits.{bitOr}
 use lib.ListN.{getD, set}
-use Rattle.bits.specs.Bit.{hasBit, setBit, merged, agreeUnder}
+use Rattle.bits.specs.Bit.{hasBit, setBit, merged, sameAs, agrees, forBelow}
 use Rattle.records.specs.declared.Frame.{Frame}
 use Rattle.records.specs.Records.{carried}
 use Rattle.registers.specs.declared.RxBuffer.{RxBuffer}
@@ -16,7 +17,6 @@ use Rattle.registers.specs.declared.Core.{Core}
 use Rattle.registers.specs.State.{RX0IF, RX1IF, ERRIF, EXIDE, BUKT, rxFlag, withRx, withCanintf, withEflg}
 use Rattle.registers.specs.Registers.{rxControl}
 use Rattle.registers.specs.State.{updated}
-use Rattle.receiving.specs.declared.Key.{Key}
 use Rattle.receiving.specs.declared.Hit.{Hit}
 use Rattle.receiving.specs.declared.Hit.the-variants.{Filter, Miss}
 use Rattle.receiving.specs.declared.Verdict.{Verdict}
@@ -59,20 +59,43 @@ dlcOf f = bitOr (f .code) (cond (f .extended && f .remote) 0x40 0)
 abbrev pub carriedBy : Frame → ℕ
 carriedBy f = carried (f .remote) (f .code)
 
--- ---- what a filter compares
--- the identifier; in a standard data frame EID8 and EID0 meet the first two data bytes, if it has them. A reach of 0 compares nothing.
-unfoldable pub keyOf : Frame → Key
-keyOf f =
-    record {
-      extended = f .extended;
-      sidh = sidhOf f;
-      sidl = sidlOf f;
-      eid8 = cond (f .extended) (eid8Of f) (getD (f .bytes) 0 0);
-      eid0 = cond (f .extended) (eid0Of f) (getD (f .bytes) 1 0);
-      reach1 = cond (f .extended) 0xE3 0xE0;
-      reach2 = cond (f .extended || ltb 0 (carriedBy f)) 0xFF 0;
-      reach3 = cond (f .extended || ltb 1 (carriedBy f)) 0xFF 0;
-    }
+-- ---- where a filter matches
+-- an identifier, a filter and a mask have four bytes each, by these numbers; a place is a byte's number and a bit's
+abbrev pub SIDH : ℕ
+SIDH = 0
+
+abbrev pub SIDL : ℕ
+SIDL = 1
+
+abbrev pub EID8 : ℕ
+EID8 = 2
+
+abbrev pub EID0 : ℕ
+EID0 = 3
+
+abbrev pub Place : Type 0
+Place = ℕ × ℕ
+
+-- bit i of a standard identifier: 10 to 3 in SIDH, 2 to 0 in SIDL bits 7-5
+abbrev pub standardPlace : ℕ → Place
+standardPlace i = cond (ltb i 3) (SIDL, 5 + i) (SIDH, i - 3)
+
+-- bit i of an extended one: 28 to 18 where a standard one has its eleven, 17 and 16 in SIDL bits 1-0, 15 to 8 in EID8, 7 to 0 in EID0
+abbrev pub extendedPlace : ℕ → Place
+extendedPlace i =
+    cond (ltb i 8) (EID0, i)
+    (cond (ltb i 16) (EID8, i - 8)
+    (cond (ltb i 18) (SIDL, i - 16) (standardPlace (i - 18))))
+
+abbrev pub identifierPlace : Bool → ℕ → Place
+identifierPlace extended i = cond extended (extendedPlace i) (standardPlace i)
+
+abbrev pub identifierWidth : Bool → ℕ
+identifierWidth extended = cond extended 29 11
+
+-- the bit at a place of the four bytes from `at` on
+abbrev pub bitAt : List ℕ → ℕ → Place → Bool
+bitAt bytes at p = hasBit (getD bytes (at + p .0) 0) (p .1)
 
 -- three filters in row 0 and three in row 1, four bytes each; filters 0 and 1 go with mask 0, the others with mask 1
 abbrev pub filterAt : ℕ → ℕ
@@ -81,34 +104,46 @@ filterAt n = n / 3 * 16 + n % 3 * 4
 abbrev pub maskAt : ℕ → ℕ
 maskAt n = cond (ltb n 2) 0x20 0x24
 
-abbrev pub sameAs : Bool → Bool → Bool
-sameAs x y = cond x y (not y)
+-- the bit that filter n has at a place and a bit of the frame agree, if the mask has a 1 there
+abbrev pub agreesAt : List ℕ → ℕ → Place → Bool → Bool
+agreesAt config n p frameBit = agrees (bitAt config (maskAt n) p) (bitAt config (filterAt n) p) frameBit
 
--- filter n matches: the frame is extended just if SIDL bit 3 says so, and no bit under the mask differs
-unfoldable pub matches : List ℕ → Key → ℕ → Bool
-matches config q n =
-    sameAs (q .extended) (hasBit (getD config (filterAt n + 1) 0) EXIDE)
-    && agreeUnder (getD config (maskAt n) 0) (getD config (filterAt n) 0) (q .sidh)
-    && agreeUnder (bitAnd (getD config (maskAt n + 1) 0) (q .reach1)) (getD config (filterAt n + 1) 0) (q .sidl)
-    && agreeUnder (bitAnd (getD config (maskAt n + 2) 0) (q .reach2)) (getD config (filterAt n + 2) 0) (q .eid8)
-    && agreeUnder (bitAnd (getD config (maskAt n + 3) 0) (q .reach3)) (getD config (filterAt n + 3) 0) (q .eid0)
+-- EXIDE says which format a filter is for; no mask bit changes that
+abbrev pub sameFormat : List ℕ → Frame → ℕ → Bool
+sameFormat config f n = sameAs (bitAt config (filterAt n) (SIDL, EXIDE)) (f .extended)
 
--- the lowest-numbered of n filters from i on that matches
+-- every identifier bit, at its place
+abbrev pub sameIdentifier : List ℕ → Frame → ℕ → Bool
+sameIdentifier config f n =
+    forBelow (identifierWidth (f .extended)) (λ i. agreesAt config n (identifierPlace (f .extended) i) (hasBit (f .identifier) i))
+
+-- data bytes 0 and 1 of a standard frame, those that it carries, stand against EID8 and, behind it, EID0
+abbrev pub sameData : List ℕ → Frame → ℕ → Bool
+sameData config f n =
+    f .extended
+    || forBelow 2
+    (λ j. not (ltb j (carriedBy f)) || forBelow 8 (λ k. agreesAt config n (EID8 + j, k) (hasBit (getD (f .bytes) j 0) k)))
+
+-- filter n matches where all three are the same
+unfoldable pub matches : List ℕ → Frame → ℕ → Bool
+matches config f n = sameFormat config f n && sameIdentifier config f n && sameData config f n
+
+-- the lowest-numbered of n filters from i on that matches, by a test for each
 unfoldable pub lowestFrom : (ℕ → Bool) → ℕ → ℕ → Hit
-lowestFrom f i zero = Miss
-lowestFrom f i (suc n) = cond (f i) (Filter i) (lowestFrom f (suc i) n)
+lowestFrom matching i zero = Miss
+lowestFrom matching i (suc n) = cond (matching i) (Filter i) (lowestFrom matching (suc i) n)
 
 -- at RXM 11 every frame comes in, as hit 0; at the other codes the filters decide
 abbrev pub takesAny : ℕ → Bool
 takesAny ctrl = eqb (ctrl / 32 % 4) 3
 
 -- RXB0 asks filters 0 and 1, RXB1 filters 2 to 5
-abbrev pub lowestFor : List ℕ → Key → RxBuffer → Hit
-lowestFor config q Rxb0 = lowestFrom (matches config q) 0 2
-lowestFor config q Rxb1 = lowestFrom (matches config q) 2 4
+abbrev pub lowestFor : (ℕ → Bool) → RxBuffer → Hit
+lowestFor matching Rxb0 = lowestFrom matching 0 2
+lowestFor matching Rxb1 = lowestFrom matching 2 4
 
-unfoldable pub hitFor : Control → List ℕ → Key → RxBuffer → Hit
-hitFor c config q b = cond (takesAny (rxControl (c .rx) b)) (Filter 0) (lowestFor config q b)
+unfoldable pub hitFor : Control → (ℕ → Bool) → RxBuffer → Hit
+hitFor c matching b = cond (takesAny (rxControl (c .rx) b)) (Filter 0) (lowestFor matching b)
 
 -- ---- which buffer
 abbrev pub isFull : Control → RxBuffer → Bool
@@ -131,7 +166,7 @@ verdictBy c (Filter h) other = verdict0 c h
 verdictBy c Miss other = verdict1 c other
 
 unfoldable pub verdictOf : Control → List ℕ → Frame → Verdict
-verdictOf c config f = verdictBy c (hitFor c config (keyOf f) Rxb0) (hitFor c config (keyOf f) Rxb1)
+verdictOf c config f = verdictBy c (hitFor c (matches config f) Rxb0) (hitFor c (matches config f) Rxb1)
 
 abbrev pub receptionOf : Verdict → Reception
 receptionOf Unmatched = NoMatch
@@ -184,6 +219,15 @@ filled rx at f (suc j) = updated (filled rx at f j) (at + 6 + j) (λ old. cond (
 
 abbrev pub headed : List ℕ → ℕ → Frame → List ℕ
 headed rx at f = set (set (set (set (set rx (at + 1) (sidhOf f)) (at + 2) (sidlOf f)) (at + 3) (eid8Of f)) (at + 4) (eid0Of f)) (at + 5) (dlcOf f)
+
+-- the four identifier bytes have each identifier bit at its place; proved in proofs/Places
+abbrev pub identifierBytes : Frame → List ℕ
+identifierBytes f = sidhOf f ∷ sidlOf f ∷ eid8Of f ∷ eid0Of f ∷ []
+
+abbrev pub StoredAtPlaces : Type 0
+StoredAtPlaces =
+    (f : Frame) (i : ℕ) → i < identifierWidth (f .extended)
+    → bitAt (identifierBytes f) 0 (identifierPlace (f .extended) i) ≡ hasBit (f .identifier) i
 
 unfoldable pub bytesStored : List ℕ → ℕ → Frame → List ℕ
 bytesStored rx at f = filled (headed rx at f) at f 8

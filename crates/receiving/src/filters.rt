@@ -1,13 +1,14 @@
 // The look over a buffer's filters.
 ghost use mathlib.Core.Path.{_≡_};
 ghost use Prim.Native.Nat.{_-_, _<_, _≤_};
+ghost use mathlib.Core.List.{[], _∷_};
 ghost use lib.ListN.{length, take};
+ghost use Rattle.bits.specs.Bit.{wordOf};
 ghost use Rattle.registers.specs.Registers.{rxControl};
 ghost use Rattle.image.specs.Image.{imageSize, controlOf};
+ghost use Rattle.receiving.specs.Words.{wordAt, wordMatches};
 ghost use Rattle.receiving.specs.Receiving.{
-  sameAs,
   maskAt,
-  matches,
   lowestFrom,
   takesAny,
   lowestFor,
@@ -17,14 +18,10 @@ use crate::Hit;
 use crate::Key;
 use image::RXB0CTRL;
 use image::RXB1CTRL;
-use registers::EXIDE;
 use registers::RxBuffer;
 
-fn same_as(x: bool, y: bool) -> bool
-    ensures { λ r. ⌜ r ≡ sameAs x y ⌝ }
-{
-    if x { y } else { !y }
-}
+// EXIDE, in the second byte of a filter's word: no mask takes it out.
+const ALWAYS: u32 = 0x0800;
 
 fn mask_at(filter: u8) -> usize
     ensures { λ r. ⌜ (r ≡ maskAt filter) × (r ≤ 36) ⌝ }
@@ -32,25 +29,33 @@ fn mask_at(filter: u8) -> usize
     if filter < 2 { 32 } else { 36 }
 }
 
+// Four bytes as one number, low byte first: then four bytes of the image are one load.
+pub fn word(a: u8, b: u8, c: u8, d: u8) -> u32
+    ensures { λ r. ⌜ r ≡ wordOf (a ∷ b ∷ c ∷ d ∷ []) ⌝ }
+{
+    records::joined(d, c, b, a)
+}
+
+fn word_at(image: &[u8], at: usize) -> u32
+    requires { ⌜ (length (now image) ≡ imageSize) × (at ≤ 36) ⌝ }
+    ensures { λ r. ⌜ r ≡ wordAt (now (image .entry)) at ⌝ }
+{
+    word(image[at], image[at + 1], image[at + 2], image[at + 3])
+}
+
 fn is_match(image: &[u8], key: Key, filter: u8) -> bool
     requires { ⌜ (length (now image) ≡ imageSize) × (filter < 6) ⌝ }
-    ensures { λ r. ⌜ r ≡ matches (now (image .entry)) key filter ⌝ }
+    ensures { λ r. ⌜ r ≡ wordMatches (now (image .entry)) key filter ⌝ }
 {
     let at = (filter / 3 * 16 + filter % 3 * 4) as usize;
-    let mask = mask_at(filter);
-    let sidl = image[at + 1];
-    let ide = same_as(key.extended, sidl / EXIDE % 2 == 1);
-    let a = bits::agree(image[mask], image[at], key.sidh);
-    let b = bits::agree(image[mask + 1] & key.reach1, sidl, key.sidl);
-    let c = bits::agree(image[mask + 2] & key.reach2, image[at + 2], key.eid8);
-    let d = bits::agree(image[mask + 3] & key.reach3, image[at + 3], key.eid0);
-    ide & a & b & c & d
+    let counted = (word_at(image, mask_at(filter)) & key.reach) | ALWAYS;
+    word_at(image, at) & counted == key.word & counted
 }
 
 // The look over filters first to end - 1: the first that matches is the answer.
 fn lowest(image: &[u8], key: Key, first: u8, end: u8) -> Hit
     requires { ⌜ (length (now image) ≡ imageSize) × (first ≤ end) × (end ≤ 6) ⌝ }
-    ensures { λ r. ⌜ r ≡ lowestFrom (matches (now (image .entry)) key) first (end - first) ⌝ }
+    ensures { λ r. ⌜ r ≡ lowestFrom (wordMatches (now (image .entry)) key) first (end - first) ⌝ }
 {
     let mut filter = first;
     loop {
@@ -66,7 +71,7 @@ fn lowest(image: &[u8], key: Key, first: u8, end: u8) -> Hit
 
 fn lowest_for(image: &[u8], key: Key, buffer: RxBuffer) -> Hit
     requires { ⌜ length (now image) ≡ imageSize ⌝ }
-    ensures { λ r. ⌜ r ≡ lowestFor (take 48 (now (image .entry))) key buffer ⌝ }
+    ensures { λ r. ⌜ r ≡ lowestFor (wordMatches (take 48 (now (image .entry))) key) buffer ⌝ }
 {
     match buffer {
         RxBuffer::Rxb0 => lowest(image, key, 0, 2),
@@ -93,7 +98,7 @@ fn takes_any(ctrl: u8) -> bool
 
 pub fn hit_for(image: &[u8], key: Key, buffer: RxBuffer) -> Hit
     requires { ⌜ length (now image) ≡ imageSize ⌝ }
-    ensures { λ r. ⌜ r ≡ hitFor (controlOf (now (image .entry))) (take 48 (now (image .entry))) key buffer ⌝ }
+    ensures { λ r. ⌜ r ≡ hitFor (controlOf (now (image .entry))) (wordMatches (take 48 (now (image .entry))) key) buffer ⌝ }
 {
     if takes_any(rx_control(image, buffer)) {
         return Hit::Filter(0);

@@ -1,11 +1,12 @@
 // A frame as register bytes.
 ghost use mathlib.Core.Path.{_≡_};
-ghost use mathlib.Core.Bool.{cond};
+ghost use mathlib.Core.Bool.{true, false, cond};
 ghost use Prim.Native.Nat.{ℕ, _+_, _*_, _%_, _≤_, _<_};
 ghost use lib.Dec.{ltb};
 ghost use lib.ListN.{length};
 ghost use Rattle.registers.specs.State.{withRxBytes};
 ghost use Rattle.image.specs.Image.{imageSize, coreOf, Became};
+ghost use Rattle.receiving.specs.Words.{keyOf};
 ghost use Rattle.receiving.specs.Receiving.{
   sidhOf,
   sidlOf,
@@ -13,7 +14,6 @@ ghost use Rattle.receiving.specs.Receiving.{
   eid0Of,
   dlcOf,
   carriedBy,
-  keyOf,
   filled,
   headed,
   bytesStored,
@@ -21,6 +21,7 @@ ghost use Rattle.receiving.specs.Receiving.{
 };
 use crate::Key;
 use crate::Verdict;
+use crate::filters::word;
 use records::Frame;
 use registers::RTR;
 
@@ -98,22 +99,39 @@ fn data_end(frame: Frame) -> u8
     if frame.remote { 0 } else { frame.code }
 }
 
-pub fn key_of(frame: Frame) -> Key
+// The first two data bytes lie where an extended frame has EID8 and EID0.
+fn standard_key(frame: Frame) -> Key
+    requires { ⌜ frame .extended ≡ false ⌝ }
     ensures { λ r. ⌜ r ≡ keyOf frame ⌝ }
 {
-    let extended = frame.extended;
     let end = data_end(frame);
     let first = frame.bytes[0];
     let second = frame.bytes[1];
+    let eid8_reach = bits::choose(0 < end, 0xFF, 0);
+    let eid0_reach = bits::choose(1 < end, 0xFF, 0);
     Key {
-        extended,
-        sidh: sidh(frame),
-        sidl: sidl(frame),
-        eid8: bits::choose(extended, eid8(frame), first),
-        eid0: bits::choose(extended, eid0(frame), second),
-        reach1: bits::choose(extended, 227, 224),
-        reach2: bits::choose(extended | (0 < end), 255, 0),
-        reach3: bits::choose(extended | (1 < end), 255, 0),
+        word: word(sidh(frame), sidl(frame), first, second),
+        reach: word(0xFF, 0xE0, eid8_reach, eid0_reach),
+    }
+}
+
+fn extended_key(frame: Frame) -> Key
+    requires { ⌜ frame .extended ≡ true ⌝ }
+    ensures { λ r. ⌜ r ≡ keyOf frame ⌝ }
+{
+    Key {
+        word: word(sidh(frame), sidl(frame), eid8(frame), eid0(frame)),
+        reach: word(0xFF, 0xE3, 0xFF, 0xFF),
+    }
+}
+
+pub fn key_of(frame: Frame) -> Key
+    ensures { λ r. ⌜ r ≡ keyOf frame ⌝ }
+{
+    if frame.extended {
+        extended_key(frame)
+    } else {
+        standard_key(frame)
     }
 }
 

@@ -6,16 +6,10 @@ mod verdicts;
 pub use verdicts::receive;
 pub use verdicts::reception_number;
 
-// What the filters compare of a frame: four bytes, and which bits of SIDL, EID8 and EID0 count.
+// What the filters are held against: a frame's four bytes as one word, and the bits of it that a mask can make count.
 pub struct Key {
-    pub extended: bool,
-    pub sidh: u8,
-    pub sidl: u8,
-    pub eid8: u8,
-    pub eid0: u8,
-    pub reach1: u8,
-    pub reach2: u8,
-    pub reach3: u8,
+    pub word: u32,
+    pub reach: u32,
 }
 
 // The filter that matched.

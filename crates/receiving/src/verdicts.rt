@@ -4,6 +4,7 @@ ghost use lib.ListN.{length, take};
 ghost use Rattle.bits.specs.Bit.{hasBit};
 ghost use Rattle.registers.specs.State.{BUKT, withControl};
 ghost use Rattle.image.specs.Image.{imageSize, controlOf, coreOf, Became, Acted, Answered};
+ghost use Rattle.receiving.specs.Words.{wordMatches};
 ghost use Rattle.receiving.specs.Receiving.{
   receptionNumber,
   hitFor,
@@ -113,7 +114,7 @@ fn judge1(image: &[u8], hit: Hit) -> Verdict
 // By the hit of RXB0; only where it has none are the filters of RXB1 asked.
 fn judge(image: &[u8], key: Key, hit: Hit) -> Verdict
     requires { ⌜ length (now image) ≡ imageSize ⌝ }
-    ensures { λ r. ⌜ r ≡ verdictBy (controlOf (now (image .entry))) hit (hitFor (controlOf (now (image .entry))) (take 48 (now (image .entry))) key RxBuffer.Rxb1) ⌝ }
+    ensures { λ r. ⌜ r ≡ verdictBy (controlOf (now (image .entry))) hit (hitFor (controlOf (now (image .entry))) (wordMatches (take 48 (now (image .entry))) key) RxBuffer.Rxb1) ⌝ }
 {
     match hit {
         Hit::Filter(filter) => judge0(image, filter),

@@ -2,14 +2,15 @@
 use mathlib.Core.Path.{_≡_, refl, sym, _∙_}
 use Prim.Native.Nat.{_≤_, _-_}
 use native.Mathlib.Omega.{arith}
-use Rattle.receiving.specs.Receiving.{matches, lowestFrom}
+use Rattle.receiving.specs.Receiving.{lowestFrom}
+use Rattle.receiving.specs.Words.{wordMatches}
 use Rattle.receiving.proofs.Look.{skipped, found, ended}
 use Rattle.receiving.proofs.filters.lowest.Statement.{statement}
 use Rattle.receiving.proofs.filters.lowest.Tie as tie
 
 abbrev Inv-loop : tie.InvT-loop
 Inv-loop image key first end filter₀ filter =
-    (filter ≤ end) × (lowestFrom (matches image key) first (end - first) ≡ lowestFrom (matches image key) filter (end - filter))
+    (filter ≤ end) × (lowestFrom (wordMatches image key) first (end - first) ≡ lowestFrom (wordMatches image key) filter (end - filter))
 
 abbrev μ-loop : tie.MeasureT-loop
 μ-loop image key first end filter₀ filter = end - filter
