@@ -64,7 +64,7 @@ agreed mask reach always filter key k = agrees ((hasBit mask k && hasBit reach k
 module _ (mask reach filter key : List ℕ) (h : wordOf reach < 2 ^ 32) where
   counted-bit : (i k : ℕ) → k < 8 → hasBit (counted (wordOf mask) (wordOf reach)) (i * 8 + k) ≡ ((bitOf mask i k && bitOf reach i k) || bitOf alwaysBytes i k)
   counted-bit i k o =
-      rw (has-or (bitAnd (wordOf mask) (wordOf reach)) (wordOf alwaysBytes) (i * 8 + k), has-and (wordOf mask) (wordOf reach) (i * 8 + k), word-bitwise mask i k o, word-bitwise reach i k o, word-bitwise alwaysBytes i k o)
+      simp (has-or, has-and, word-bitwise mask i k o, word-bitwise reach i k o, word-bitwise alwaysBytes i k o)
 
   counted-lt : counted (wordOf mask) (wordOf reach) < 2 ^ 32
   counted-lt =

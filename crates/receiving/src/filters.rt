@@ -26,7 +26,7 @@ const ALWAYS: u32 = 0x0800;
 fn mask_at(filter: u8) -> usize
     ensures { λ r. ⌜ (r ≡ maskAt filter) × (r ≤ 36) ⌝ }
 {
-    if filter < 2 { 32 } else { 36 }
+    if filter < 2 { 0x20 } else { 0x24 }
 }
 
 // Four bytes as one number, low byte first: then four bytes of the image are one load.
