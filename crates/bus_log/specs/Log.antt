@@ -1,9 +1,9 @@
 -- A bus log: records of 16 bytes with no header, each a step of the chip. Assumes nothing: these are definitions.
 use mathlib.Core.Path.{_≡_}
-use mathlib.Core.Bool.{Bool, true, not, _&&_}
+use mathlib.Core.Bool.{Bool, true, cond, not, _&&_}
 use mathlib.Core.List.{List, [], _∷_}
-use Prim.Native.Nat.{ℕ, zero, suc, _/_}
-use lib.Dec.{eqb}
+use Prim.Native.Nat.{ℕ, zero, suc, _/_, _%_}
+use lib.Dec.{eqb, ltb}
 use lib.ListN.{take, drop}
 use Rattle.mcp2515.specs.declared.Chip.{Chip}
 use Rattle.mcp2515.specs.declared.Stepped.{Stepped}
@@ -32,6 +32,15 @@ countRefusal = 8
 -- how many whole records stand in size bytes
 abbrev pub recordsIn : ℕ → ℕ
 recordsIn size = size / recordSize
+
+-- the refusal of a log of size bytes: 6, then 8, else 0
+unfoldable pub logRefusal : ℕ → ℕ
+logRefusal size =
+    cond (ltb 0 (size % recordSize)) lengthRefusal (cond (ltb maxRecords (recordsIn size)) countRefusal 0)
+
+-- of two refusals the first that applies, 0 where none does
+abbrev pub firstOf : ℕ → ℕ → ℕ
+firstOf a b = cond (ltb 0 a) a b
 
 -- the record at a place of a log
 abbrev pub recordAt : List ℕ → ℕ → List ℕ

@@ -1,13 +1,13 @@
 -- The run of a whole log: its refusal, its result and its answers. Assumes nothing: these are definitions.
 use mathlib.Core.Bool.{cond}
 use mathlib.Core.List.{List, _++_}
-use Prim.Native.Nat.{ℕ, _*_, _%_}
+use Prim.Native.Nat.{ℕ, _*_}
 use lib.Dec.{ltb}
 use lib.IntN.{ℤ, pos, negℤ}
 use lib.ListN.{length, drop}
 use Rattle.mcp2515.specs.declared.Chip.{Chip}
 use Rattle.mcp2515.specs.Step.{powerOn}
-use Rattle.bus_log.specs.Log.{recordSize, maxRecords, lengthRefusal, roomRefusal, countRefusal, recordsIn, stepsOf, answersOf}
+use Rattle.bus_log.specs.Log.{roomRefusal, recordsIn, logRefusal, firstOf, stepsOf, answersOf}
 
 -- the answer bytes of n records: two each
 abbrev pub answerRoom : ℕ → ℕ
@@ -15,10 +15,7 @@ answerRoom n = 2 * n
 
 -- the refusal of a log of size bytes with room for so many answer bytes: 6, then 8, then 7, else 0
 unfoldable pub runRefusal : ℕ → ℕ → ℕ
-runRefusal size room =
-    cond (ltb 0 (size % recordSize)) lengthRefusal
-    (cond (ltb maxRecords (recordsIn size)) countRefusal
-    (cond (ltb room (answerRoom (recordsIn size))) roomRefusal 0))
+runRefusal size room = firstOf (logRefusal size) (cond (ltb room (answerRoom (recordsIn size))) roomRefusal 0)
 
 -- what a call for C returns: minus the refusal, or where that is 0 its value
 abbrev pub callResult : ℕ → ℕ → ℤ

@@ -1,13 +1,20 @@
 // A recorded bus log, run through the chip from power-on or from a chip that a C program holds.
 ghost use mathlib.Core.Path.{_≡_};
-ghost use Prim.Native.Nat.{_+_, _*_, _≤_};
+ghost use Prim.Native.Nat.{_+_, _*_, _≤_, min};
 ghost use lib.ListN.{length, take, drop};
 ghost use lib.Seq.{sets};
 ghost use lib.IntN.{pos, negℤ};
 ghost use Rattle.records.specs.Records.{recordOf};
 ghost use Rattle.image.specs.Image.{imageSize};
 ghost use Rattle.mcp2515.specs.ChipImage.{chipOf, Moved};
-ghost use Rattle.bus_log.specs.Log.{recordSize, stepsOf, lastChip, RefusedStay, answersOf};
+ghost use Rattle.bus_log.specs.Log.{
+  recordSize,
+  logRefusal,
+  stepsOf,
+  lastChip,
+  RefusedStay,
+  answersOf,
+};
 ghost use Rattle.bus_log.specs.Run.{answerRoom, runRefusal, runResult, runAnswers};
 ghost use Rattle.bus_log.specs.Held.{heldRefusal};
 ghost use Rattle.bus_log.specs.From.{RecordRun, RunningFrom};
@@ -106,17 +113,34 @@ pub fn run_record<'a>(image: &'a mut [u8], record: &'a [u8]) -> Outcome
     }
 }
 
-// Why a log of size bytes, with room for so many answer bytes, is refused; 0 where it is not.
-fn run_refusal(size: usize, room: usize) -> u8
-    ensures { λ r. ⌜ r ≡ runRefusal size room ⌝ }
+// The smaller of two sizes.
+pub fn least(a: usize, b: usize) -> usize
+    ensures { λ r. ⌜ r ≡ min a b ⌝ }
+{
+    if a < b { a } else { b }
+}
+
+// Why a log of size bytes is refused, whatever the room; 0 where it is not.
+pub fn log_refusal(size: usize) -> u8
+    ensures { λ r. ⌜ r ≡ logRefusal size ⌝ }
 {
     if size % RECORD_SIZE > 0 {
         return LENGTH_REFUSAL;
     }
-    let count = size / RECORD_SIZE;
-    let needed = ANSWER_SIZE * count;
-    if count > MAX_RECORDS {
+    if size / RECORD_SIZE > MAX_RECORDS {
         return COUNT_REFUSAL;
+    }
+    0
+}
+
+// The same with room for so many answer bytes.
+fn run_refusal(size: usize, room: usize) -> u8
+    ensures { λ r. ⌜ r ≡ runRefusal size room ⌝ }
+{
+    let needed = ANSWER_SIZE * (size / RECORD_SIZE);
+    let of_log = log_refusal(size);
+    if of_log > 0 {
+        return of_log;
     }
     if needed > room {
         return ROOM_REFUSAL;

@@ -1,18 +1,11 @@
 -- A text stored in a buffer, and another after it. Assumes nothing.
 use mathlib.Core.Path.{_≡_, refl, _∙_}
-use mathlib.Core.List.{List, [], _∷_, _++_}
-use Prim.Native.Nat.{ℕ, suc, _+_}
-use native.Mathlib.Nat.{add-zero}
+use mathlib.Core.List.{List, [], _++_}
+use Prim.Native.Nat.{ℕ}
 use native.Mathlib.Omega.{arith}
-use lib.ListN.{length, length-append, set}
-use lib.Seq.{sets}
+use lib.ListN.{length-append}
+use Rattle.bus_log.proofs.Copy.{sets-append}
 use Rattle.log_text.specs.Storing.{Stored}
-
-sets-append : (u v l : List ℕ) (at : ℕ) → sets (sets l at u) (at + length u) v ≡ sets l at (u ++ v)
-sets-append [] v l at = rw add-zero
-sets-append (x ∷ u) v l at =
-    let next : at + suc (length u) ≡ suc at + length u = omega arith in
-    rw next (sets-append u v (set l at x) (suc at))
 
 pub then-stored : {l m o u v : List ℕ} {at p q : ℕ} → Stored l at u m p → Stored m p v o q → Stored l at (u ++ v) o q
 then-stored {l} {m} {o} {u} {v} {at} {p} {q} a b =

@@ -1,7 +1,7 @@
 // The text of a replay: a line for each record of the log, rendered a stretch at a time.
 ghost use mathlib.Core.Path.{_≡_};
 ghost use mathlib.Core.List.{[], _∷_};
-ghost use Prim.Native.Nat.{_+_, _*_, _≤_, _<_, _^_, min};
+ghost use Prim.Native.Nat.{_+_, _*_, _≤_, _<_, _^_};
 ghost use lib.ListN.{length};
 ghost use Rattle.image.specs.Image.{imageSize};
 ghost use Rattle.mcp2515.specs.ChipImage.{chipOf, Moved};
@@ -125,12 +125,6 @@ fn records_left(number: u32) -> usize
     if n < MAX_RECORDS { MAX_RECORDS - n } else { 0 }
 }
 
-fn least(a: usize, b: usize) -> usize
-    ensures { λ r. ⌜ r ≡ min a b ⌝ }
-{
-    if a < b { a } else { b }
-}
-
 // The refusal that ends the run in a stretch of size bytes, or 0. Past the limit only a whole record is
 // one too many; a short one is short.
 pub fn end_refusal(number: u32, size: usize) -> u8
@@ -164,7 +158,7 @@ fn put_stretch<'a>(image: &'a mut [u8], number: u32, part: &'a [u8], out: &'a mu
     ensures { λ _. ⌜ RefusedStay (stretchSteps (chipOf (now (image .entry))) number (now (part .entry))) (now (image .entry)) (now (image .exit)) ⌝ }
 {
     let size = part.len();
-    let count = least(size / RECORD_SIZE, records_left(number));
+    let count = bus_log::least(size / RECORD_SIZE, records_left(number));
     let len = put_records(image, number, part, count, out);
     let refusal = end_refusal(number, size);
     if refusal == 0 {
@@ -188,7 +182,7 @@ pub fn render_stretch(chip: Chip, number: u32, part: &[u8], out: &mut [u8]) -> R
     }
     let mut image = mcp2515::pack(chip);
     let len = put_stretch(&mut image, number, part, out);
-    let count = least(size / RECORD_SIZE, records_left(number));
+    let count = bus_log::least(size / RECORD_SIZE, records_left(number));
     Rendered {
         refusal: end_refusal(number, size),
         len,

@@ -12,11 +12,11 @@ use Rattle.records.specs.Records.{dataBytes, carried}
 use borrow.Author.Tests.{eq-eqb, ne-eqb, eqb-true, eqb-false, leb-true, leb-false, ltb-true, ltb-false}
 
 -- n elements of a list, the first at + k
-listed : List ℕ → ℕ → ℕ → ℕ → List ℕ
+unfoldable pub listed : List ℕ → ℕ → ℕ → ℕ → List ℕ
 listed l at k zero = []
 listed l at k (suc n) = getD l (at + k) 0 ∷ listed l at (suc k) n
 
-taken : (l : List ℕ) (at k n : ℕ) → at + k + n ≤ length l → take n (drop (at + k) l) ≡ listed l at k n
+pub taken : (l : List ℕ) (at k n : ℕ) → at + k + n ≤ length l → take n (drop (at + k) l) ≡ listed l at k n
 unfolding listed
 taken l at k zero h = refl
 taken l at k (suc n) h =

@@ -14,7 +14,7 @@ use mir.Facts.{toZ-pos}
 use Rattle.image.specs.Image.{isChip, Answered}
 use Rattle.image.proofs.Laws.{chip-size}
 use Rattle.mcp2515.specs.ChipImage.{chipOf}
-use Rattle.bus_log.specs.Log.{recordSize, lastChip, answersOf, lengthRefusal, roomRefusal}
+use Rattle.bus_log.specs.Log.{recordSize, logRefusal, lastChip, answersOf, lengthRefusal, roomRefusal}
 use Rattle.bus_log.specs.Run.{answerRoom, runRefusal}
 use Rattle.bus_log.specs.Held.{chipRefusal, heldRefusal}
 use Rattle.bus_log.specs.From.{fromAnswers}
@@ -40,7 +40,7 @@ first-two (x ∷ []) a b h = absurd (omega arith)
 first-two (x ∷ y ∷ xs) a b h = refl
 
 one-refusal : (size room : ℕ) → size ≡ recordSize → recordRefusal size room ≡ runRefusal size room
-unfolding runRefusal
+unfolding runRefusal logRefusal
 one-refusal size room e = rw e
 
 pub step-is-run : StepIsRun
