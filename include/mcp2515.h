@@ -28,9 +28,9 @@
  *
  * Every call that returns a negative number was refused: it is minus one of the
  * MCP2515_REFUSED_ numbers, and no byte of a lent buffer has changed. A pointer
- * may be NULL if its length is 0. Buffers of one call must not overlap. There
- * is no state but the bytes lent: calls on different buffers may run in
- * different threads at the same time.
+ * may be NULL if its length is 0. Buffers of one call must not overlap, but for
+ * two that are only read. There is no state but the bytes lent: calls on
+ * different buffers may run in different threads at the same time.
  */
 #ifndef MCP2515_H
 #define MCP2515_H
@@ -46,6 +46,7 @@ extern "C" {
 
 #define MCP2515_RECORD_SIZE 16
 #define MCP2515_ANSWER_SIZE 2 /* refusal and answer of one record */
+#define MCP2515_ENTRY_SIZE 8  /* a record in which two logs differ */
 #define MCP2515_MOST_RECORDS 65535
 #define MCP2515_LINE_SIZE 19 /* room for a line of the replay's text */
 
@@ -95,7 +96,7 @@ extern "C" {
 
 /* Refusals of a call, returned as negative numbers. */
 #define MCP2515_REFUSED_LENGTH 6     /* no whole number of records */
-#define MCP2515_REFUSED_ROOM 7       /* too little room for answers or text */
+#define MCP2515_REFUSED_ROOM 7       /* too little room for answers, text or entries */
 #define MCP2515_REFUSED_COUNT 8      /* more than 65,535 records */
 #define MCP2515_REFUSED_CHIP_ROOM 19 /* too little room for a chip */
 #define MCP2515_REFUSED_NO_CHIP 21   /* the bytes are no chip: length or version */
@@ -143,6 +144,31 @@ int64_t mcp2515_step(uint8_t *chip, size_t chip_len, const uint8_t *record, size
  */
 int64_t mcp2515_run_from(uint8_t *chip, size_t chip_len, const uint8_t *log, size_t log_len,
                          uint8_t *answers, size_t answers_len);
+
+/*
+ * Compares two logs, each run from power-on by a chip of its own, record by
+ * record as far as both go. A record number, from 1, is listed where the 16
+ * bytes of the record, its refusal or its answer differ; no attempt is made to
+ * line the logs up again. An entry is eight bytes: the number in four, high byte
+ * first; refusal and answer in the first log; refusal and answer in the second.
+ * Entries stand one after the other, numbers rising; bytes past them stay. The
+ * first that applies decides:
+ *
+ *   -6  first_len is no whole number of records
+ *   -8  there are more than 65,535 in the first log
+ *   -6  second_len is no whole number of records
+ *   -8  there are more than 65,535 in the second log
+ *   -7  entries_len has no room for all entries; eight bytes for each record of
+ *       the shorter log are always enough
+ *   otherwise the number of entries, 0 where nothing differs as far as both go
+ *
+ * Which log -6 or -8 is about follows from the lengths.
+ *
+ * What one log has past the end of the other gets no entries: it starts at the
+ * shorter length. The two logs may be the same bytes.
+ */
+int64_t mcp2515_compare_logs(const uint8_t *first, size_t first_len, const uint8_t *second,
+                             size_t second_len, uint8_t *entries, size_t entries_len);
 
 /*
  * The byte that an address holds, and the byte that READ replies there in the

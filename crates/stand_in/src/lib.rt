@@ -1,5 +1,5 @@
 // The calls of a C program that holds a chip as bytes of its own. The archive of this crate has the calls
-// marked here and no others, so the runs of bus_log and the text of log_text stand here once more.
+// marked here and no others, so those of bus_log, compare and log_text stand here once more.
 ghost use mathlib.Core.Path.{_≡_};
 ghost use Prim.Native.Nat.{_≤_};
 ghost use lib.ListN.{length};
@@ -9,6 +9,7 @@ ghost use Rattle.registers.specs.Registers.{holds, reads, intIsLow};
 ghost use Rattle.mcp2515.specs.ChipImage.{chipOf};
 ghost use Rattle.bus_log.specs.Run.{runResult, runAnswers};
 ghost use Rattle.bus_log.specs.From.{RunningFrom};
+ghost use Rattle.compare.specs.Compare.{compareResult, compareEntries};
 ghost use Rattle.log_text.specs.Stretch.{stretchRefusal};
 ghost use Rattle.log_text.specs.Text.{TextHeld};
 ghost use Rattle.stand_in.specs.StandIn.{
@@ -108,6 +109,20 @@ pub extern "C" fn mcp2515_run_log(log: &[u8], answers: &mut [u8]) -> i64
     ensures buffer { λ _. ⌜ now (answers .exit) ≡ runAnswers (now (log .entry)) (now (answers .entry)) ⌝ }
 {
     bus_log::mcp2515_run_log(log, answers)
+}
+
+// Two logs, each from power-on by a chip of its own: stores an entry for each record in which they differ and
+// returns the number of entries, or changes nothing and returns minus the refusal.
+#[no_mangle]
+pub extern "C" fn mcp2515_compare_logs<'a>(
+    first: &'a [u8],
+    second: &'a [u8],
+    entries: &'a mut [u8],
+) -> i64
+    ensures result { λ r. ⌜ r ≡ compareResult (now (first .entry)) (now (second .entry)) (length (now (entries .entry))) ⌝ }
+    ensures buffer { λ _. ⌜ now (entries .exit) ≡ compareEntries (now (first .entry)) (now (second .entry)) (now (entries .entry)) ⌝ }
+{
+    compare::mcp2515_compare_logs(first, second, entries)
 }
 
 // The text of a part of a log, after number records and from the chip that is lent, which is left as the

@@ -1,0 +1,5 @@
+pub mod Tests
+pub mod Runs
+pub mod Lists
+pub mod Blocks
+pub mod Whole
