@@ -8,6 +8,7 @@
 
 #include <stddef.h>
 
+#include "differences.h"
 #include "script.h"
 
 struct fixed_case {
@@ -52,6 +53,21 @@ void tidied_lists(tidied_check *check);
 
 /* The record at place i of the tidied list. */
 size_t tidied_record(const struct tidied_list *t, size_t i);
+
+/* Two logs, the room lent, and what comparing them must give. */
+struct pair_case {
+    const char *name;
+    const uint8_t *first, *second;
+    size_t first_len, second_len, entries_len;
+    int64_t result;
+    const uint8_t *entries; /* as many as the result says */
+    struct log_part leftover;
+};
+
+typedef void pair_check(const struct pair_case *c);
+
+/* Hands every pair of cases_differences.c to check. */
+void pair_cases(pair_check *check);
 
 /* Shared steps. */
 void case_errors(struct script *s, unsigned buffer, unsigned count); /* idle, own frame in error */

@@ -810,7 +810,7 @@ long model_run_log(const uint8_t *log, size_t log_len, uint8_t *answers, size_t 
     if (records > LOG_RECORDS_MAX)
         return -REFUSED_TOO_LONG;
     if (answers_len < 2 * records)
-        return -REFUSED_SHORT_ANSWERS;
+        return -REFUSED_SHORT_OUTPUT;
     model_power_on(&m);
     for (size_t i = 0; i < records; i++)
         model_step(&m, log + RECORD_BYTES * i, &answers[2 * i], &answers[2 * i + 1]);

@@ -2,8 +2,10 @@
  * Time a record of the proved call and of the second model on the same logs,
  * and what a record costs by mcp2515_run_from and by mcp2515_step in parts of
  * the whole-log call; the same for logs that are mostly frames, by the frame;
- * then records a second and peak memory of the replay program. An older
- * archive that is linked in (make speed BEFORE=..) is timed beside.
+ * records a second and peak memory of the replay program; then
+ * mcp2515_compare_logs in parts of the runs of its logs, with status 1 if a
+ * ratio is over its limit. An older archive that is linked in
+ * (make speed BEFORE=..) is timed beside, on whole logs.
  *
  *   speed replay log-file-to-write
  */
@@ -22,9 +24,10 @@
 #include "gen.h"
 #include "mcp2515.h"
 #include "model.h"
+#include "speed.h"
 #include "speed_logs.h"
 
-enum { MOST = LOG_RECORDS_MAX, SEED = 2515, GOES = 15, PASSES = 5, REPLAY_RUNS = 5 };
+enum { REPLAY_RUNS = 5 };
 
 /* The whole-log call of the older archive, its name changed; NULL if there is none. */
 int64_t before_mcp2515_run_log(const uint8_t *log, size_t log_len, uint8_t *answers,
@@ -32,7 +35,7 @@ int64_t before_mcp2515_run_log(const uint8_t *log, size_t log_len, uint8_t *answ
 
 static uint8_t answers_of_call[2 * MOST], answers_of_model[2 * MOST];
 
-static double now(void)
+double now(void)
 {
     struct timespec t;
     clock_gettime(CLOCK_MONOTONIC, &t);
@@ -152,10 +155,6 @@ static void time_three(const struct pool *p, const uint8_t three[3], double ns[W
         }
 }
 
-/* Fills a log and returns what its time is divided by: all records, or of
- * late and last the frames, which then bear the time of the other records. */
-typedef size_t make_log(uint64_t seed, uint8_t *log, size_t records);
-
 static size_t quiet_log(uint64_t seed, uint8_t *log, size_t records)
 {
     gen_log(GEN_QUIET, seed, log, records);
@@ -259,6 +258,15 @@ static void time_replay(const char *replay, const char *path)
            best * 1e3, MOST / best, peak_kb);
 }
 
+static bool time_all_pairs(void)
+{
+    print_pairs_head();
+    bool quiet = time_pairs("quiet", quiet_log), busy = time_pairs("busy", busy_log);
+    bool random = time_pairs("random", random_log);
+    time_noise_pairs();
+    return quiet && busy && random;
+}
+
 int main(int argc, char **argv)
 {
     uint8_t *log = malloc((size_t)MOST * RECORD_BYTES);
@@ -274,7 +282,10 @@ int main(int argc, char **argv)
     print_head("frame");
     time_logs("late", late_log, log);
     time_logs("last", last_log, log);
-    time_replay(argv[1], argv[2]);
+    time_replay(argv[1], argv[2]); /* before the pairs: a fork counts the memory of this program */
     free(log);
-    return 0;
+    if (time_all_pairs())
+        return 0;
+    fprintf(stderr, "comparing two logs: a ratio is over its limit\n");
+    return 1;
 }

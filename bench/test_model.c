@@ -1,6 +1,7 @@
 /*
  * Tests of the second model by itself: the fixed cases, the whole-log rule,
- * chips no log can reach, the tidied list, and random logs.
+ * two logs side by side, chips no log can reach, the tidied list, and random
+ * logs.
  */
 #include <limits.h>
 #include <stdarg.h>
@@ -10,6 +11,7 @@
 
 #include "cases.h"
 #include "cover.h"
+#include "differences.h"
 #include "gen.h"
 #include "match.h"
 #include "model.h"
@@ -139,6 +141,33 @@ static void test_whole_log_rule(void)
     EXPECT("nothing past the answers", true, all_guard(answers + 2 * MOST, 2));
     free(log);
     free(answers);
+}
+
+/* ---- two logs side by side ---- */
+
+static unsigned pairs_compared;
+
+static void check_pair(const struct pair_case *c)
+{
+    enum { PAST = 32 };
+    struct log_part leftover;
+    uint8_t *entries = malloc(c->entries_len + PAST);
+    size_t written = c->result > 0 ? ENTRY_BYTES * (size_t)c->result : 0;
+    memset(entries, GUARD, c->entries_len + PAST);
+    int64_t got = model_compare_logs(c->first, c->first_len, c->second, c->second_len, entries,
+                                     c->entries_len, &leftover);
+    EXPECT(c->name, c->result, got);
+    EXPECT(c->name, true, written == 0 || memcmp(entries, c->entries, written) == 0);
+    EXPECT(c->name, true, all_guard(entries + written, c->entries_len + PAST - written));
+    EXPECT(c->name, true, leftover.bytes == c->leftover.bytes);
+    EXPECT(c->name, c->leftover.length, leftover.length);
+    pairs_compared++;
+    free(entries);
+}
+
+static void test_pairs(void)
+{
+    pair_cases(check_pair);
 }
 
 /* What differs, by what addresses hold, or NULL. */
@@ -1268,6 +1297,7 @@ int main(int argc, char **argv)
     test_data_bytes();
     test_fixed_cases();
     test_whole_log_rule();
+    test_pairs();
     test_unreached(seed);
     test_no_ninth_byte();
     test_power_on();
@@ -1289,6 +1319,7 @@ int main(int argc, char **argv)
     }
     printf("%zu fixed cases, %u tidied lists (event moved: %u) and the random logs agree\n",
            case_count(), tidied_moved + tidied_stayed, tidied_moved);
+    printf("%u pairs of logs compared\n", pairs_compared);
     printf("frames stored by source, form and length code: the rarest %lu times (%s)\n",
            rarest.count, rarest.sort);
     printf("corners of the match rule: the rarest decides %lu frames (%s)\n", rarest_match.count,
