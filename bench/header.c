@@ -8,7 +8,12 @@
 
 #include "mcp2515.h"
 
-enum { CHIP = MCP2515_CHIP_SIZE, RECORD = MCP2515_RECORD_SIZE, ANSWER = MCP2515_ANSWER_SIZE };
+enum {
+    CHIP = MCP2515_CHIP_SIZE,
+    RECORD = MCP2515_RECORD_SIZE,
+    ANSWER = MCP2515_ANSWER_SIZE,
+    ENTRY = MCP2515_ENTRY_SIZE
+};
 
 static unsigned checked;
 
@@ -107,6 +112,48 @@ static void check_log_limits(void)
     free(answers);
 }
 
+/* One record each, which differ: an unknown kind, and bus idle with nothing to send. */
+static void check_entry(void)
+{
+    static const uint8_t want[ENTRY] = {0, 0, 0, 1, MCP2515_REFUSED_FIELD, 0, 0, 3};
+    uint8_t first[RECORD + 1] = {8}, second[RECORD + 1] = {4}, entries[ENTRY];
+    expect("two logs of a record", 1,
+           mcp2515_compare_logs(first, RECORD, second, RECORD, entries, ENTRY));
+    expect("the entry", 0, memcmp(entries, want, ENTRY));
+    expect("an entry short of a byte", -MCP2515_REFUSED_ROOM,
+           mcp2515_compare_logs(first, RECORD, second, RECORD, entries, ENTRY - 1));
+    expect("no entry", 0, mcp2515_compare_logs(first, RECORD, first, RECORD, entries, 0));
+    expect("the first log with a byte more", -MCP2515_REFUSED_LENGTH,
+           mcp2515_compare_logs(first, RECORD + 1, second, RECORD, entries, ENTRY));
+    expect("the second log with a byte more", -MCP2515_REFUSED_LENGTH,
+           mcp2515_compare_logs(first, RECORD, second, RECORD + 1, entries, ENTRY));
+}
+
+/* In the longest logs every record differs. */
+static void check_entry_limits(void)
+{
+    enum { MOST = MCP2515_MOST_RECORDS };
+    size_t most_len = (size_t)MOST * RECORD, over_len = most_len + RECORD;
+    size_t room = (size_t)MOST * ENTRY;
+    uint8_t *first = calloc(MOST + 1, RECORD), *second = calloc(MOST + 1, RECORD);
+    uint8_t *entries = calloc(MOST, ENTRY);
+    for (size_t i = 0; i <= MOST; i++)
+        second[RECORD * i] = 4;
+    expect("the longest logs", MOST,
+           mcp2515_compare_logs(first, most_len, second, most_len, entries, room));
+    expect("the last number, high byte", MOST / 256, entries[room - ENTRY + 2]);
+    expect("the last number, low byte", MOST % 256, entries[room - ENTRY + 3]);
+    expect("the longest logs, a byte less room", -MCP2515_REFUSED_ROOM,
+           mcp2515_compare_logs(first, most_len, second, most_len, entries, room - 1));
+    expect("a record more in the first log", -MCP2515_REFUSED_COUNT,
+           mcp2515_compare_logs(first, over_len, second, most_len, entries, room));
+    expect("a record more in the second log", -MCP2515_REFUSED_COUNT,
+           mcp2515_compare_logs(first, most_len, second, over_len, entries, room));
+    free(first);
+    free(second);
+    free(entries);
+}
+
 /* The longest line there is: a number of ten digits and an answer of three. */
 static void check_line(void)
 {
@@ -127,6 +174,8 @@ int main(void)
     check_places();
     check_record_limits();
     check_log_limits();
+    check_entry();
+    check_entry_limits();
     check_line();
     printf("header: %u checks of sizes, places and limits agree\n", checked);
     return 0;

@@ -42,6 +42,14 @@ static void do_run_log(void)
     mcp2515_run_log(records, sizeof records, out, sizeof out);
 }
 
+/* A log against itself, whole and without its first record: all alike, and hardly anything. */
+static void do_compare_logs(void)
+{
+    size_t length = sizeof records - MCP2515_RECORD_SIZE;
+    mcp2515_compare_logs(records, length, records, length, out, sizeof out);
+    mcp2515_compare_logs(records, length, records + MCP2515_RECORD_SIZE, length, out, sizeof out);
+}
+
 static void do_power_on(void)
 {
     mcp2515_power_on(chip, sizeof chip);
@@ -90,11 +98,17 @@ static const struct call {
     const char *name;
     void (*run)(void);
 } calls[] = {
-    {"no call at all", do_nothing},    {"mcp2515_run_log", do_run_log},
-    {"mcp2515_power_on", do_power_on}, {"mcp2515_step", do_step},
-    {"mcp2515_run_from", do_run_from}, {"mcp2515_hold", do_hold},
-    {"mcp2515_read", do_read},         {"mcp2515_int_is_low", do_int_is_low},
-    {"mcp2515_render", do_render},     {"mcp2515_part_refusal", do_part_refusal},
+    {"no call at all", do_nothing},
+    {"mcp2515_run_log", do_run_log},
+    {"mcp2515_power_on", do_power_on},
+    {"mcp2515_step", do_step},
+    {"mcp2515_run_from", do_run_from},
+    {"mcp2515_hold", do_hold},
+    {"mcp2515_read", do_read},
+    {"mcp2515_int_is_low", do_int_is_low},
+    {"mcp2515_render", do_render},
+    {"mcp2515_part_refusal", do_part_refusal},
+    {"mcp2515_compare_logs", do_compare_logs},
 };
 
 struct painted {
