@@ -9,8 +9,6 @@
 #include "mcp2515.h"
 #include "tool.h"
 
-enum { MOST_LOG = MCP2515_MOST_RECORDS * MCP2515_RECORD_SIZE };
-
 /* ---- running the log ---- */
 
 struct ran {
@@ -19,24 +17,9 @@ struct ran {
     size_t refused;
 };
 
-/* Reads up to one record more than a log may have; gives the length, or -1. */
-static ssize_t read_log(const struct input *in, uint8_t *log, size_t most)
-{
-    size_t length = 0;
-    while (length < most) {
-        ssize_t got = read_input(in, log + length, most - length);
-        if (got < 0)
-            return -1;
-        if (got == 0)
-            break;
-        length += (size_t)got;
-    }
-    return (ssize_t)length;
-}
-
 static int run_log(const struct input *in, struct ran *ran)
 {
-    static uint8_t log[MOST_LOG + MCP2515_RECORD_SIZE];
+    static uint8_t log[MOST_LOG + MCP2515_RECORD_SIZE]; /* one record more shows refusal 8 */
     static uint8_t answers[MCP2515_MOST_RECORDS * MCP2515_ANSWER_SIZE];
     ssize_t length = read_log(in, log, sizeof log);
     if (length < 0)

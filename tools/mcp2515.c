@@ -8,7 +8,8 @@
 #include "mcp2515.h"
 #include "tool.h"
 
-static const struct subcommand *const subcommands[] = {&replay_command, &chip_command};
+static const struct subcommand *const subcommands[] = {&replay_command, &chip_command,
+                                                       &compare_command};
 enum { SUBCOMMANDS = sizeof subcommands / sizeof *subcommands };
 
 static int print_help(void)
@@ -19,8 +20,8 @@ static int print_help(void)
     for (size_t i = 0; i < SUBCOMMANDS; i++)
         printf("  %-8s %s\n", subcommands[i]->name, subcommands[i]->summary);
     puts("\n'mcp2515 COMMAND --help' says more. In place of a file, - is standard input;\n"
-         "-- ends the options. Exit status: 0 good, 1 a replayed log ended in refusal 6 or\n"
-         "8, 2 trouble.");
+         "-- ends the options. Exit status: 0 good; 1 a replayed log ended in refusal 6 or\n"
+         "8, or two compared logs are not the same; 2 trouble.");
     return flush_out();
 }
 

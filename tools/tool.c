@@ -5,6 +5,7 @@
 #include <fcntl.h>
 #include <stdio.h>
 #include <string.h>
+#include <sys/stat.h>
 #include <unistd.h>
 
 #include "mcp2515.h"
@@ -20,6 +21,18 @@ int trouble(const char *what, const char *reason)
 int trouble_errno(const char *what)
 {
     return trouble(what, strerror(errno));
+}
+
+static int point_to_help(const struct subcommand *c)
+{
+    fprintf(stderr, "Try 'mcp2515 %s --help'.\n", c->name);
+    return STATUS_TROUBLE;
+}
+
+int wrong_usage(const struct subcommand *c, const char *reason)
+{
+    trouble(c->name, reason);
+    return point_to_help(c);
 }
 
 const char *refusal_text(int64_t refusal)
@@ -58,9 +71,8 @@ int flush_out(void)
 
 static int usage_trouble(const struct subcommand *c, const char *what, const char *argument)
 {
-    fprintf(stderr, "mcp2515: %s: %s '%s'\nTry 'mcp2515 %s --help'.\n", c->name, what, argument,
-            c->name);
-    return STATUS_TROUBLE;
+    fprintf(stderr, "mcp2515: %s: %s '%s'\n", c->name, what, argument);
+    return point_to_help(c);
 }
 
 static bool take_flag(const struct arguments *a, const char *argument)
@@ -71,6 +83,57 @@ static bool take_flag(const struct arguments *a, const char *argument)
             return true;
         }
     return false;
+}
+
+static int number_trouble(const struct subcommand *c, const char *name, const char *value)
+{
+    fprintf(stderr, "mcp2515: %s: %s needs a decimal number", c->name, name);
+    if (value != NULL)
+        fprintf(stderr, ", not '%s'", value);
+    fprintf(stderr, "\n");
+    return point_to_help(c);
+}
+
+/* Digits and nothing else. */
+static bool read_number(const char *text, size_t *number)
+{
+    size_t value = 0;
+    if (text[0] == '\0' || text[strspn(text, "0123456789")] != '\0')
+        return false;
+    for (; *text != '\0'; text++) {
+        size_t digit = (size_t)(*text - '0');
+        value = value > (SIZE_MAX - digit) / 10 ? SIZE_MAX : value * 10 + digit;
+    }
+    *number = value;
+    return true;
+}
+
+/* The option that an argument NAME or NAME=N names, or NULL. */
+static const struct number_option *find_number(const struct arguments *a, const char *argument)
+{
+    size_t length = strcspn(argument, "=");
+    for (size_t i = 0; i < a->number_count; i++) {
+        const char *name = a->numbers[i].name;
+        if (strlen(name) == length && strncmp(argument, name, length) == 0)
+            return &a->numbers[i];
+    }
+    return NULL;
+}
+
+/* The option at argv[*at]; its number may be the argument after it, which is taken too. */
+static int take_option(const struct subcommand *c, char **argv, int *at, const struct arguments *a)
+{
+    const char *argument = argv[*at];
+    if (take_flag(a, argument))
+        return GO_ON;
+    const struct number_option *option = find_number(a, argument);
+    if (option == NULL)
+        return usage_trouble(c, "unknown option", argument);
+    const char *equals = strchr(argument, '=');
+    const char *value = equals != NULL ? equals + 1 : argv[++*at]; /* argv ends with NULL */
+    if (value == NULL || !read_number(value, option->number))
+        return number_trouble(c, option->name, value);
+    return GO_ON;
 }
 
 static bool looks_like_option(const char *argument)
@@ -89,8 +152,8 @@ int take_arguments(const struct subcommand *c, int argc, char **argv, struct arg
             fputs(c->help, stdout);
             return flush_out();
         } else if (options && looks_like_option(argv[i])) {
-            if (!take_flag(a, argv[i]))
-                return usage_trouble(c, "unknown option", argv[i]);
+            if (take_option(c, argv, &i, a) != GO_ON)
+                return STATUS_TROUBLE;
         } else if (a->count == a->most) {
             return usage_trouble(c, "one argument too many,", argv[i]);
         } else {
@@ -102,13 +165,24 @@ int take_arguments(const struct subcommand *c, int argc, char **argv, struct arg
 
 /* ---- input ---- */
 
+/* Where a standard stream is closed, a file must not take its number: it would be read as -. */
+static int open_file(const char *path)
+{
+    int file = open(path, O_RDONLY);
+    if (file < 0 || file > STDERR_FILENO)
+        return file;
+    int above = fcntl(file, F_DUPFD, STDERR_FILENO + 1);
+    close(file);
+    return above;
+}
+
 int open_input(struct input *in, const char *path)
 {
     if (path == NULL || strcmp(path, "-") == 0) {
         *in = (struct input){"standard input", STDIN_FILENO};
         return STATUS_GOOD;
     }
-    *in = (struct input){path, open(path, O_RDONLY)};
+    *in = (struct input){path, open_file(path)};
     return in->file < 0 ? trouble_errno(path) : STATUS_GOOD;
 }
 
@@ -116,6 +190,20 @@ void close_input(struct input *in)
 {
     if (in->file != STDIN_FILENO)
         close(in->file);
+}
+
+/* By the paths: to open a pipe a second time might wait for ever. */
+static bool find_pipe(const char *path, struct stat *file)
+{
+    int found = strcmp(path, "-") == 0 ? fstat(STDIN_FILENO, file) : stat(path, file);
+    return found == 0 && S_ISFIFO(file->st_mode);
+}
+
+bool one_pipe(const char *first, const char *second)
+{
+    struct stat a, b;
+    return find_pipe(first, &a) && find_pipe(second, &b) && a.st_dev == b.st_dev &&
+           a.st_ino == b.st_ino;
 }
 
 ssize_t read_input(const struct input *in, uint8_t *bytes, size_t length)
@@ -127,4 +215,38 @@ ssize_t read_input(const struct input *in, uint8_t *bytes, size_t length)
     if (got < 0)
         trouble_errno(in->name);
     return got;
+}
+
+ssize_t read_log(const struct input *in, uint8_t *log, size_t most)
+{
+    size_t length = 0;
+    while (length < most) {
+        ssize_t got = read_input(in, log + length, most - length);
+        if (got < 0)
+            return -1;
+        if (got == 0)
+            break;
+        length += (size_t)got;
+    }
+    return (ssize_t)length;
+}
+
+/* A file is asked for its size. Of anything else the end has to be seen. */
+int64_t skip_rest(const struct input *in)
+{
+    static uint8_t bytes[65536];
+    struct stat file;
+    off_t at = lseek(in->file, 0, SEEK_CUR);
+    if (at >= 0 && fstat(in->file, &file) == 0 && S_ISREG(file.st_mode) && file.st_size >= at)
+        return file.st_size - at;
+    int64_t rest = 0;
+    ssize_t got;
+    while ((got = read_input(in, bytes, sizeof bytes)) > 0)
+        rest += got;
+    return got < 0 ? -1 : rest;
+}
+
+uint32_t four_bytes(const uint8_t *bytes)
+{
+    return (uint32_t)bytes[0] << 24 | (uint32_t)bytes[1] << 16 | (uint32_t)bytes[2] << 8 | bytes[3];
 }

@@ -10,8 +10,10 @@
 #include <stdint.h>
 #include <sys/types.h>
 
+#include "mcp2515.h"
+
 /* Exit statuses, as cmp and diff have them. */
-enum { STATUS_GOOD = 0, STATUS_REFUSED = 1, STATUS_TROUBLE = 2 };
+enum { STATUS_GOOD = 0, STATUS_REFUSED = 1, STATUS_DIFFERENT = 1, STATUS_TROUBLE = 2 };
 
 struct subcommand {
     const char *name;
@@ -20,7 +22,7 @@ struct subcommand {
     int (*run)(int argc, char **argv); /* argv[0] is its name; returns the status */
 };
 
-extern const struct subcommand replay_command, chip_command;
+extern const struct subcommand replay_command, chip_command, compare_command;
 
 /* ---- arguments ---- */
 
@@ -29,11 +31,19 @@ struct flag {
     bool *given;
 };
 
+/* NAME N or NAME=N, N in decimal; what is too large for size_t counts as the largest. */
+struct number_option {
+    const char *name; /* with its dashes */
+    size_t *number;   /* stays as it was where the option is not given */
+};
+
 enum { MOST_OPERANDS = 2, GO_ON = -1 };
 
 struct arguments {
     const struct flag *flags;
     size_t flag_count;
+    const struct number_option *numbers;
+    size_t number_count;
     int most; /* operands allowed */
     const char *operand[MOST_OPERANDS];
     int count;
@@ -49,6 +59,9 @@ int trouble(const char *what, const char *reason);
 
 /* The same with the reason of errno. */
 int trouble_errno(const char *what);
+
+/* `mcp2515: SUBCOMMAND: REASON`, and where to read on; gives STATUS_TROUBLE. */
+int wrong_usage(const struct subcommand *c, const char *reason);
 
 /* What a refusal of a log means, in words. */
 const char *refusal_text(int64_t refusal);
@@ -70,7 +83,34 @@ struct input {
 int open_input(struct input *in, const char *path);
 void close_input(struct input *in);
 
+/* Whether two such paths are of the same pipe, which could be read only once. */
+bool one_pipe(const char *first, const char *second);
+
 /* What is there now, at most length bytes; 0 at the end, -1 for trouble (told). */
 ssize_t read_input(const struct input *in, uint8_t *bytes, size_t length);
+
+enum { MOST_LOG = MCP2515_MOST_RECORDS * MCP2515_RECORD_SIZE };
+
+/* All that comes, at most most bytes; gives the length, -1 for trouble (told). */
+ssize_t read_log(const struct input *in, uint8_t *log, size_t most);
+
+/* How many bytes follow, which are not kept; -1 for trouble (told). */
+int64_t skip_rest(const struct input *in);
+
+/* The number that four bytes make, the high one first. */
+uint32_t four_bytes(const uint8_t *bytes);
+
+/* ---- words ---- */
+
+enum { WORDS_ROOM = 100 };
+
+struct words {
+    char record[WORDS_ROOM];  /* what a record is */
+    char outcome[WORDS_ROOM]; /* what came of it; empty where it was taken and that is all */
+};
+
+/* The chip is the one before the record; answer has refusal and answer. */
+void tell_record(struct words *words, const uint8_t *chip, const uint8_t *record,
+                 const uint8_t *answer);
 
 #endif

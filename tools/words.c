@@ -1,0 +1,205 @@
+/* A record of a log in words: what it is, and what came of it. */
+#include <inttypes.h>
+#include <stdarg.h>
+#include <stdio.h>
+#include <string.h>
+
+#include "mcp2515.h"
+#include "tool.h"
+
+enum { SELECT_LOW, EXCHANGE, SELECT_HIGH, FRAME, BUS_IDLE, FRAME_ENDS, RECEIVE_ERROR, RECOVERY };
+
+static const char *const kinds[] = {
+    [SELECT_LOW] = "select low",       [EXCHANGE] = "exchange",
+    [SELECT_HIGH] = "select high",     [FRAME] = "frame",
+    [BUS_IDLE] = "bus idle",           [FRAME_ENDS] = "own frame ends",
+    [RECEIVE_ERROR] = "receive error", [RECOVERY] = "bus-off recovery",
+};
+enum { KINDS = sizeof kinds / sizeof *kinds };
+
+static void add(char *text, const char *format, ...)
+{
+    size_t length = strlen(text);
+    va_list values;
+    va_start(values, format);
+    vsnprintf(text + length, WORDS_ROOM - length, format, values);
+    va_end(values);
+}
+
+static void add_bytes(char *text, const uint8_t *bytes, size_t count)
+{
+    for (size_t i = 0; i < count; i++)
+        add(text, " %02X", bytes[i]);
+}
+
+/* ---- the byte of an exchange within its instruction ---- */
+
+/* The places of the open instruction, and the one of its codes that is asked for here. */
+enum { PLACE_ADDRESS = MCP2515_PLACE_OPEN + 1, AWAITS_CODE = 1 };
+
+static const char *instruction_name(uint8_t code)
+{
+    switch (code) {
+    case 0x02:
+        return "WRITE";
+    case 0x03:
+        return "READ";
+    case 0x05:
+        return "BIT MODIFY";
+    case 0xA0:
+        return "READ STATUS";
+    case 0xB0:
+        return "RX STATUS";
+    case 0xC0:
+        return "RESET";
+    }
+    if (code >= 0x40 && code <= 0x45)
+        return "LOAD TX BUFFER";
+    if ((code & 0xF9) == 0x90)
+        return "READ RX BUFFER";
+    return (code & 0xF8) == 0x80 ? "RTS" : "unknown instruction";
+}
+
+/* What the next byte is to an open instruction. */
+struct part {
+    const char *name; /* NULL where there is none */
+    bool has_address; /* which follows the name */
+    bool replies;
+};
+
+/* By the chip's place of the open instruction, from 13 on the last. */
+static const struct part *open_part(const uint8_t *chip)
+{
+    static const struct part parts[] = {
+        {NULL, false, false}, /* select is high */
+        {NULL, false, false}, /* the byte is a code */
+        {"address to READ", false, false},
+        {"READ of", true, true},
+        {"address to WRITE", false, false},
+        {"WRITE to", true, false},
+        {"address to BIT MODIFY", false, false},
+        {"mask to BIT MODIFY", true, false},
+        {"data to BIT MODIFY", true, false},
+        {"READ RX BUFFER of", true, true},
+        {"READ RX BUFFER of", true, true},
+        {"READ STATUS", false, true},
+        {"RX STATUS", false, true},
+        {"past the instruction", false, false},
+    };
+    enum { LAST = sizeof parts / sizeof *parts - 1 };
+    uint8_t open = chip[MCP2515_PLACE_OPEN];
+    return &parts[open < LAST ? open : LAST];
+}
+
+static void tell_exchange(char *text, const uint8_t *chip, uint8_t byte)
+{
+    const struct part *part = open_part(chip);
+    add(text, "exchange %02Xh", byte);
+    if (chip[MCP2515_PLACE_OPEN] == AWAITS_CODE)
+        add(text, ", %s", instruction_name(byte));
+    if (part->name != NULL)
+        add(text, ", %s", part->name);
+    if (part->has_address)
+        add(text, " %02Xh", chip[PLACE_ADDRESS] & 0x7F);
+}
+
+/* ---- what a record is ---- */
+
+static void tell_frame(char *text, const uint8_t *record)
+{
+    bool extended = record[1] & 1, remote = record[1] & 2;
+    unsigned code = record[2];
+    uint32_t identifier = four_bytes(record + 4);
+    if (extended)
+        add(text, "frame extended %08" PRIX32 "h", identifier);
+    else
+        add(text, "frame standard %03" PRIX32 "h", identifier);
+    add(text, "%s, DLC %u", remote ? ", remote" : "", code);
+    if (!remote && code > 0) {
+        add(text, ", data");
+        add_bytes(text, record + 8, code < 8 ? code : 8);
+    }
+}
+
+/* Fields mean something only where they are in their range: without refusal 2. */
+static void tell_sound(char *text, const uint8_t *chip, const uint8_t *record)
+{
+    static const char *const ends[] = {"sent", "arbitration lost", "error"};
+    switch (record[0]) {
+    case EXCHANGE:
+        tell_exchange(text, chip, record[1]);
+        break;
+    case FRAME:
+        tell_frame(text, record);
+        break;
+    case FRAME_ENDS:
+        add(text, "own frame ends, %s", ends[record[1]]);
+        break;
+    case RECEIVE_ERROR:
+        add(text, "receive error, adds %d", record[1] == 0 ? 1 : 8);
+        break;
+    default:
+        add(text, "%s", kinds[record[0]]);
+    }
+}
+
+static void tell_unsound(char *text, const uint8_t *record)
+{
+    add(text, "%s, bytes", record[0] < KINDS ? kinds[record[0]] : "unknown kind");
+    add_bytes(text, record, MCP2515_RECORD_SIZE);
+}
+
+/* ---- what came of it ---- */
+
+static const char *refusal_reason(uint8_t refusal, uint8_t kind)
+{
+    switch (refusal) {
+    case MCP2515_REFUSED_SELECT:
+        return kind == SELECT_LOW ? "select is low" : "select is high";
+    case MCP2515_REFUSED_FIELD:
+        return "unknown kind, or a byte out of range";
+    case MCP2515_REFUSED_IN_FLIGHT:
+        return "an own frame is in flight";
+    case MCP2515_REFUSED_NO_FLIGHT:
+        return "no own frame is in flight";
+    }
+    return kind == RECOVERY ? "not bus-off" : "in Loopback an own frame is always sent";
+}
+
+static bool in_loopback(const uint8_t *chip)
+{
+    enum { CANSTAT = 0x0E, LOOPBACK = 2 };
+    return mcp2515_hold(chip, MCP2515_CHIP_SIZE, CANSTAT) >> 5 == LOOPBACK; /* OPMOD */
+}
+
+/* Where nothing is told the answer is 0. */
+static void tell_answer(char *text, const uint8_t *chip, uint8_t kind, uint8_t answer)
+{
+    static const char *const heard[] = {"no match", "in RXB0",       "in RXB1",
+                                        "lost",     "not listening", "woke"};
+    enum { HEARD = sizeof heard / sizeof *heard, NO_BUFFER = 3 };
+    bool is_heard = kind == FRAME || (kind == FRAME_ENDS && in_loopback(chip));
+    if (is_heard && answer < HEARD)
+        add(text, "%s", heard[answer]);
+    else if (kind == BUS_IDLE && answer < NO_BUFFER)
+        add(text, "TXB%u goes", answer);
+    else if (kind == BUS_IDLE)
+        add(text, "no buffer goes");
+    else if (kind == EXCHANGE && open_part(chip)->replies)
+        add(text, "reply %02Xh", answer);
+}
+
+void tell_record(struct words *words, const uint8_t *chip, const uint8_t *record,
+                 const uint8_t *answer)
+{
+    uint8_t refusal = answer[0];
+    words->record[0] = words->outcome[0] = '\0';
+    if (refusal == MCP2515_REFUSED_FIELD)
+        tell_unsound(words->record, record);
+    else
+        tell_sound(words->record, chip, record);
+    if (refusal != 0)
+        add(words->outcome, "refused, %s", refusal_reason(refusal, record[0]));
+    else
+        tell_answer(words->outcome, chip, record[0], answer[1]);
+}
