@@ -12,6 +12,8 @@ root=$(cd "$(dirname "$0")/.." && pwd)
 work=$(mktemp -d) || exit 1
 trap 'chmod -R u+rw "$work"; rm -rf "$work"' EXIT
 tried=0
+# shellcheck source=tools/records.sh
+. "$root/tools/records.sh"
 
 stop() {
     echo "tool check: FAILED: $*" >&2
@@ -218,19 +220,6 @@ run chip "$root/bench/build/logs/empty.log"
 status 0 $? "chip of an empty log"
 say "chip of the sample and of an empty log"
 
-# record BYTE..: sixteen bytes, given in hexadecimal, zeros after them
-record() {
-    printf "$(printf '\\x%s' "$@")"
-    head -c $((16 - $#)) /dev/zero
-}
-
-# session BYTE..: select low, an exchange for each byte, select high
-session() {
-    record 0
-    for byte in "$@"; do record 1 "$byte"; done
-    record 2
-}
-
 # shows LOG LINE..: the chip after the log has these lines
 shows() {
     run chip "$1"
@@ -333,5 +322,8 @@ tool_path=$(cd "$(dirname "$tool")" && pwd)/${tool##*/}
 status 0 $? "replay -- --help"
 same "$work/want" "$work/out" "a log with the name --help after --"
 say "--help, --version, bad arguments, --"
+
+# shellcheck source=tools/check_compare.sh
+. "$root/tools/check_compare.sh"
 
 echo "tool check: $tried groups passed"
