@@ -23,7 +23,7 @@ all: prove lib tool sample
 
 # What the proofs say goes to a file; a line for each crate is shown as it is proved.
 prove:
-	@echo "== proving the crates and building the replay program: about 5 minutes the first time (build/prove.log has the prover's notes)"
+	@echo "== proving the crates and building the replay program: 4 to 7 minutes the first time (build/prove.log has the prover's notes)"
 	@.ci/progress build/prove.log rt check replay
 
 lib:
@@ -85,7 +85,7 @@ uninstall:
 	rm -f $(DESTDIR)$(PREFIX)/lib/lib$(LIBRARY).a $(DESTDIR)$(PREFIX)/lib/pkgconfig/mcp2515.pc
 
 check:
-	@echo "== the whole gate, .ci/run: 25 to 30 minutes (build/check.log has all that it says)"
+	@echo "== the whole gate, .ci/run: 25 to 45 minutes (build/check.log has all that it says)"
 	@.ci/progress build/check.log .ci/run
 
 clean:
@@ -93,13 +93,13 @@ clean:
 	$(MAKE) -C bench clean
 
 help:
-	@echo "make            prove the code, build replay, archive and tool, replay a sample (5 minutes)"
+	@echo "make            prove the code, build replay, archive and tool, replay a sample (4 to 7 minutes)"
 	@echo "make lib        the archive for C programs: $(ARCHIVE)"
 	@echo "make tool       the command-line tool, from the archive: $(TOOL)"
 	@echo "make examples   build and run examples/*.c"
 	@echo "make tool-check the tool against the replay program"
 	@echo "make install PREFIX=$(PREFIX) DESTDIR=    tool, header, archive, pkg-config file; make uninstall"
-	@echo "make check      the whole gate: tests, proofs from nothing, must-fail edits (25 to 30 minutes)"
+	@echo "make check      the whole gate: tests, proofs from nothing, must-fail edits (25 to 45 minutes)"
 	@echo "make clean      remove what was built"
 	@echo "ARCHIVE=.. takes another archive, REPLAY=.. another replay program"
 	@echo "make -C bench check | compare | live | pairs | header | speed | stack | mutate    the C side alone; see bench/Makefile"
