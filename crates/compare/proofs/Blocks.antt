@@ -18,6 +18,17 @@ use Rattle.compare.specs.Compare.{sameBytes, differs, Difference, itemIf
 use Rattle.compare.specs.Block.{toldBy, toldIn, differencesIn, Listing, agreeingOf, OneChip}
 use Rattle.compare.proofs.Tests.{same-equal, differs-itself, told-same}
 
+-- the differences by the answer bytes of both runs, whatever stands behind these
+by-answers : (n k : ℕ) (c d : Chip) (a b x y : List ℕ)
+    → differencesIn n k a (answersOf (stepsOf n c a) ++ x) b (answersOf (stepsOf n d b) ++ y) ≡ differencesFrom n k c d a b
+unfolding differencesIn differencesFrom stepsOf answersOf
+by-answers zero k c d a b x y = refl
+by-answers (suc n) k c d a b x y =
+    let r = take recordSize a in
+    let s = take recordSize b in
+    ap (λ (ds : List Difference). itemIf (differs r (outcome c r) s (outcome d s)) (record { number = suc k; first = outcome c r; second = outcome d s }) ds)
+    (by-answers n (suc k) (nextChip c r) (nextChip d s) (drop recordSize a) (drop recordSize b) x y)
+
 -- there are at most as many differences as records
 pub at-most : (n k : ℕ) (c d : Chip) (a b : List ℕ) → length (differencesFrom n k c d a b) ≤ n
 unfolding differencesFrom
@@ -32,17 +43,6 @@ at-most (suc n) k c d a b =
     one : (t : Bool) (x : Difference) (ds : List Difference) → length ds ≤ n → length (itemIf t x ds) ≤ suc n
     one true x ds h = omega arith
     one false x ds h = omega arith
-
--- the differences by the answer bytes of both runs, whatever stands behind these
-by-answers : (n k : ℕ) (c d : Chip) (a b x y : List ℕ)
-    → differencesIn n k a (answersOf (stepsOf n c a) ++ x) b (answersOf (stepsOf n d b) ++ y) ≡ differencesFrom n k c d a b
-unfolding differencesIn differencesFrom stepsOf answersOf
-by-answers zero k c d a b x y = refl
-by-answers (suc n) k c d a b x y =
-    let r = take recordSize a in
-    let s = take recordSize b in
-    ap (λ (ds : List Difference). itemIf (differs r (outcome c r) s (outcome d s)) (record { number = suc k; first = outcome c r; second = outcome d s }) ds)
-    (by-answers n (suc k) (nextChip c r) (nextChip d s) (drop recordSize a) (drop recordSize b) x y)
 
 append-item : (t : Bool) (x : Difference) (ds es : List Difference) → itemIf t x (ds ++ es) ≡ itemIf t x ds ++ es
 append-item true x ds es = refl

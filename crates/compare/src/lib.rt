@@ -78,16 +78,16 @@ fn agreeing<'a>(first: &'a [u8], second: &'a [u8], count: usize) -> usize
     requires { ⌜ (count * recordSize ≤ length (now first)) × (count * recordSize ≤ length (now second)) ⌝ }
     ensures { λ r. ⌜ r ≡ agreeingOf count (now (first .entry)) (now (second .entry)) ⌝ }
 {
-    let mut n = 0;
+    let mut agreed = 0;
     let mut at = 0;
-    while n < count {
+    while agreed < count {
         if !same_record(first, second, at) {
             break;
         }
         at += RECORD_SIZE;
-        n += 1;
+        agreed += 1;
     }
-    n
+    agreed
 }
 
 // ---- a block of records
@@ -166,20 +166,20 @@ fn list_block<'a>(
     let mut at = before * RECORD_SIZE;
     let mut out = 0;
     let mut done = before;
-    let mut k = found;
+    let mut listed = found;
     while left > 0 {
         let one = told_at(told, out);
         let two = told_at(other, out);
         let differs = !(same_record(first, second, at) & (one == two));
-        let place = ENTRY_SIZE * k;
+        let place = ENTRY_SIZE * listed;
         put_entry_if(storing & differs, entries, place, done + 1, one, two);
-        k += differs as usize;
+        listed += differs as usize;
         at += RECORD_SIZE;
         out += ANSWER_SIZE;
         done += 1;
         left -= 1;
     }
-    k
+    listed
 }
 
 // ---- two logs
@@ -328,15 +328,15 @@ fn result_of(told: Compared) -> i64
 fn leftover<'a>(first: &'a [u8], second: &'a [u8], refused: bool) -> &'a [u8]
     ensures { λ r. ⌜ now r ≡ cond refused (drop (length (now (first .entry))) (now (first .entry))) (pastShorter (now (first .entry)) (now (second .entry))) ⌝ }
 {
-    let n = first.len();
-    let m = second.len();
+    let first_len = first.len();
+    let second_len = second.len();
     if refused {
-        return &first[n..];
+        return &first[first_len..];
     }
-    if n < m {
-        return &second[n..];
+    if first_len < second_len {
+        return &second[first_len..];
     }
-    &first[m..]
+    &first[second_len..]
 }
 
 // Compares two logs, each run from power-on by a chip of its own: stores an entry for each record in which

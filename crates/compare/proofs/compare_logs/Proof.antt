@@ -16,7 +16,7 @@ returns : tie.Need-returns
 unfolding compareEntries
 returns c =
     let a = c .before .before .before .before .before .args in
-    let same = c .before .logs-refusal .ensures in
+    let same : c .before .logs-refusal .result ≡ firstOf (logRefusal (length (a .first .now))) (logRefusal (length (a .second .now))) = c .before .logs-refusal .ensures in
     let t = log-refused (a .first .now) (a .second .now) (a .entries .now) (rw (← same) (c .if1 .taken)) in
     (rw same (t .told), t .stored)
 

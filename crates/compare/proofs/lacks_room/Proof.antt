@@ -6,7 +6,7 @@ use native.Mathlib.Omega.{arith}
 use borrow.Author.Needs.{needs}
 use borrow.Author.Tests.{le-ltb}
 use lib.ListN.{length, drop}
-use lib.Seq.{length-sets}
+use lib.Seq.{length-sets, length-take-le}
 use Rattle.mcp2515.specs.ChipImage.{chipOf}
 use Rattle.bus_log.specs.Log.{recordSize}
 use Rattle.compare.specs.Compare.{differencesFrom, entriesOf, entryRoom}
@@ -29,7 +29,7 @@ slice-relend-prefix-list : tie.Need-slice-relend-prefix-list
 slice-relend-prefix-list c = search needs
 
 slice-aggregate-list : tie.Need-slice-aggregate-list
-slice-aggregate-list c = search needs
+slice-aggregate-list c = search (needs, length-take-le)
 
 list-requires : tie.Need-list-requires
 list-requires c κs = search needs

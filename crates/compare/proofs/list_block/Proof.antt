@@ -18,19 +18,19 @@ use Rattle.compare.proofs.list_block.Statement.{statement}
 use Rattle.compare.proofs.list_block.Tie as tie
 
 abbrev Inv-loop : tie.InvT-loop
-Inv-loop first second told other before count entries₀ found storing left₀ at₀ out₀ done₀ k₀ entries left at out done k =
+Inv-loop first second told other before count entries₀ found storing left₀ at₀ out₀ done₀ listed₀ entries left at out done listed =
     (storing ≡ ltb 0 (length entries₀))
     × (at ≡ done * recordSize)
     × (done + left ≡ before + count)
     × (out + answerRoom left ≤ length told)
     × (out + answerRoom left ≤ length other)
-    × (k ≤ done)
+    × (listed ≤ done)
     × (length entries ≡ length entries₀)
-    × (k + length (differencesIn left done (drop at first) (drop out told) (drop at second) (drop out other)) ≡ found + length (differencesIn count before (drop (before * recordSize) first) told (drop (before * recordSize) second) other))
-    × (sets entries (entryRoom k) (entriesOf (differencesIn left done (drop at first) (drop out told) (drop at second) (drop out other))) ≡ sets entries₀ (entryRoom found) (entriesOf (differencesIn count before (drop (before * recordSize) first) told (drop (before * recordSize) second) other)))
+    × (listed + length (differencesIn left done (drop at first) (drop out told) (drop at second) (drop out other)) ≡ found + length (differencesIn count before (drop (before * recordSize) first) told (drop (before * recordSize) second) other))
+    × (sets entries (entryRoom listed) (entriesOf (differencesIn left done (drop at first) (drop out told) (drop at second) (drop out other))) ≡ sets entries₀ (entryRoom found) (entriesOf (differencesIn count before (drop (before * recordSize) first) told (drop (before * recordSize) second) other)))
 
 abbrev μ-loop : tie.MeasureT-loop
-μ-loop first second told other before count entries₀ found storing left₀ at₀ out₀ done₀ k₀ entries left at out done k = left
+μ-loop first second told other before count entries₀ found storing left₀ at₀ out₀ done₀ listed₀ entries left at out done listed = left
 
 mul-at : tie.Need-mul-at Inv-loop μ-loop
 mul-at c = search needs
@@ -70,11 +70,11 @@ put-entry-if-requires c κs e =
     let room = c .before .before .before .before .before .before .before .before .before .before .before .pre .1 (λ z. absurd (omega (arith, ltb-true 0 (length (a .entries .now)) (both .0)))) in
     omega arith
 
-cast-k : tie.Need-cast-k Inv-loop μ-loop
-cast-k c = search needs
+cast-listed : tie.Need-cast-listed Inv-loop μ-loop
+cast-listed c = search needs
 
-add-k : tie.Need-add-k Inv-loop μ-loop
-add-k c =
+add-listed : tie.Need-add-listed Inv-loop μ-loop
+add-listed c =
     let test = not (c .before .before .before .before .same-record .result && eqb (c .before .before .before .before .before .before .told-at .result) (c .before .before .before .before .before .told-at2 .result)) in
     omega (arith, at-most-one test)
 
@@ -104,7 +104,7 @@ loop-again c =
     let test = not (same .result && eqb (one .result) (two .result)) in
     let item : Difference = record { number = l .done + 1; first = toldIn (one .result); second = toldIn (two .result) } in
     let parts = record-parts (l .left) (l .done) (l .at) (l .out) (a .first .now) (a .told .now) (a .second .now) (a .other .now) (same .result) (one .result) (two .result) (omega arith) (one .ok) (two .ok) (same .ensures) (one .ensures) (two .ensures) in
-    let stored : put .last .1 .0 ≡ cond (ltb 0 (length (l .entries)) && test) (sets (l .entries) (entryRoom (l .k)) (entryOf item)) (l .entries) = rw (l .inv .6) (put .ensures) in (
+    let stored : put .last .1 .0 ≡ cond (ltb 0 (length (l .entries)) && test) (sets (l .entries) (entryRoom (l .listed)) (entryOf item)) (l .entries) = rw (l .inv .6) (put .ensures) in (
       l .inv .0,
       omega arith,
       omega arith,
@@ -112,8 +112,8 @@ loop-again c =
       omega arith,
       omega (arith, at-most-one test),
       c .before .entries .given ∙ l .inv .6,
-      step-counted test item _ _ (l .k) parts ∙ l .inv .7,
-      parts-stored parts (item-listed test item (l .k) (l .entries) (put .last .1 .0) stored) ∙ l .inv .8,
+      step-counted test item _ _ (l .listed) parts ∙ l .inv .7,
+      parts-stored parts (item-listed test item (l .listed) (l .entries) (put .last .1 .0) stored) ∙ l .inv .8,
     )
 
 same-length : tie.Need-same-length Inv-loop μ-loop
@@ -140,8 +140,8 @@ list-block-spec =
     mul-place
     add-put-entry-if
     put-entry-if-requires
-    cast-k
-    add-k
+    cast-listed
+    add-listed
     add-at
     add-out
     add-done
