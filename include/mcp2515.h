@@ -24,6 +24,13 @@
  * Two bytes come back for each record, refusal then answer. A refused record
  * answers 0 and changes no byte of the chip, which takes the next record.
  *
+ * Beside them a record has a set: bit n is 1 where filter n, under its own mask,
+ * matches the frame. All six filters are asked whenever the chip listens to a
+ * frame, whatever becomes of it, with RXM at 11 too: a record of kind 3, or one
+ * of kind 5 by which an own frame is sent in Loopback. The set is 0 where the
+ * chip does not listen or wakes, for a refused record and for all other records.
+ * mcp2515_step_set gives it, mcp2515_compare_logs and mcp2515_render show it.
+ *
  * A log is records one after the other without a header, at most 65,535.
  *
  * Every call that returns a negative number was refused: it is minus one of the
@@ -42,13 +49,14 @@
 extern "C" {
 #endif
 
-#define MCP2515_VERSION "0.1.0" /* of header, archive and tool */
+#define MCP2515_VERSION "0.2.0" /* of header, archive and tool */
 
 #define MCP2515_RECORD_SIZE 16
-#define MCP2515_ANSWER_SIZE 2 /* refusal and answer of one record */
-#define MCP2515_ENTRY_SIZE 8  /* a record in which two logs differ */
+#define MCP2515_ANSWER_SIZE 2     /* refusal and answer of one record */
+#define MCP2515_ANSWER_SET_SIZE 3 /* refusal, answer and set */
+#define MCP2515_ENTRY_SIZE 10     /* a record in which two logs differ */
 #define MCP2515_MOST_RECORDS 65535
-#define MCP2515_LINE_SIZE 19 /* room for a line of the replay's text */
+#define MCP2515_LINE_SIZE 23 /* room for a line of the replay's text */
 
 /*
  * A chip is 152 bytes that the program holds, copies, saves and loads as it
@@ -135,6 +143,18 @@ int64_t mcp2515_step(uint8_t *chip, size_t chip_len, const uint8_t *record, size
                      uint8_t *answer, size_t answer_len);
 
 /*
+ * The same with the record's set: answer[0] is its refusal, answer[1] its
+ * answer, answer[2] its set.
+ *
+ *   -21  no chip
+ *   -6   record_len is not 16
+ *   -7   answer_len is below 3
+ *   otherwise 3
+ */
+int64_t mcp2515_step_set(uint8_t *chip, size_t chip_len, const uint8_t *record, size_t record_len,
+                         uint8_t *answer, size_t answer_len);
+
+/*
  * Runs a log as mcp2515_run_log does, from the chip lent, which is the chip
  * after the log then.
  *
@@ -148,17 +168,18 @@ int64_t mcp2515_run_from(uint8_t *chip, size_t chip_len, const uint8_t *log, siz
 /*
  * Compares two logs, each run from power-on by a chip of its own, record by
  * record as far as both go. A record number, from 1, is listed where the 16
- * bytes of the record, its refusal or its answer differ; no attempt is made to
- * line the logs up again. An entry is eight bytes: the number in four, high byte
- * first; refusal and answer in the first log; refusal and answer in the second.
- * Entries stand one after the other, numbers rising; bytes past them stay. The
- * first that applies decides:
+ * bytes of the record, its refusal, its answer or its set differ; no attempt is
+ * made to line the logs up again. An entry is ten bytes: the number in four, high
+ * byte first; refusal and answer in the first log; refusal and answer in the
+ * second; the set in the first; the set in the second. Entries stand one after
+ * the other, numbers rising; bytes past them stay. The first that applies
+ * decides:
  *
  *   -6  first_len is no whole number of records
  *   -8  there are more than 65,535 in the first log
  *   -6  second_len is no whole number of records
  *   -8  there are more than 65,535 in the second log
- *   -7  entries_len has no room for all entries; eight bytes for each record of
+ *   -7  entries_len has no room for all entries; ten bytes for each record of
  *       the shorter log are always enough
  *   otherwise the number of entries, 0 where nothing differs as far as both go
  *
@@ -191,13 +212,14 @@ int64_t mcp2515_int_is_low(const uint8_t *chip, size_t chip_len);
 /*
  * The replay's text of a part of a log, by the chip lent, which is stepped.
  * number says how many records were run before. Each record gets a line with
- * its number (the first is number + 1), refusal and answer. Where the part ends
+ * its number (the first is number + 1), refusal and answer; one whose byte 0 is
+ * 3, a frame, has its set as a fourth number, refused or not. Where the part ends
  * short of a whole record, a last line has refusal 6. A whole record past the
  * 65,535th is not run: it gets a last line with refusal 8, and nothing follows.
- * Parts cut between records give the text of the whole.
+ * Both have three numbers. Parts cut between records give the text of the whole.
  *
  *   -21  no chip
- *   -7   text_len is below (part_len / 16 + 1) * 19
+ *   -7   text_len is below (part_len / 16 + 1) * 23
  *   otherwise the bytes of text written; bytes past them stay
  */
 int64_t mcp2515_render(uint8_t *chip, size_t chip_len, uint32_t number, const uint8_t *part,

@@ -2,43 +2,49 @@
 use mathlib.Core.Bool.{Bool, true, false, cond, not, _&&_}
 use mathlib.Core.List.{List, [], _∷_}
 use mathlib.Core.Path.{_≡_, refl, ap, subst, _∙_}
-use Prim.Native.Nat.{ℕ, suc, _+_}
+use Prim.Native.Nat.{ℕ}
 use native.Mathlib.Omega.{arith}
 use borrow.Author.Tests.{eqb-false, ne-eqb, not-true}
 use lib.Dec.{eqb}
-use lib.ListN.{length, getD, drop, set}
+use lib.ListN.{length, getD, drop}
 use lib.Seq.{sets}
 use Rattle.records.specs.declared.Fields.{Fields}
 use Rattle.records.specs.declared.Outcome.{Outcome}
 use Rattle.records.specs.Records.{recordOf}
 use Rattle.image.specs.Image.{imageSize, Answered}
 use Rattle.mcp2515.specs.declared.Stepped.{Stepped}
-use Rattle.mcp2515.specs.Step.{stepOf, outcome, nextChip}
+use Rattle.mcp2515.specs.Step.{stepOf, outcome, askedOutcome, nextChip}
 use Rattle.mcp2515.specs.ChipImage.{chipOf, Moved, Advanced}
-use Rattle.bus_log.specs.Log.{recordSize, stepsOf, lastChip, allRefused, RefusedStay, answersOf}
+use Rattle.bus_log.specs.Log.{recordSize, stepsOf, lastChip, allRefused, RefusedStay, answerBytes, answersOf}
 use Rattle.bus_log.specs.From.{RecordRun}
 use Rattle.bus_log.proofs.Steps.{one-step}
 
 -- the image n and the answer bytes ys after the record r
-pub record Ran (m n r xs : List ℕ) (out : ℕ) (ys : List ℕ) : Type 0 where
+pub record Ran (m n r : List ℕ) (asked : Bool) (o : Outcome) : Type 0 where
   pub size : length n ≡ imageSize
   pub after : chipOf n ≡ stepOf (chipOf m) r .chip
   pub spare : drop 146 n ≡ drop 146 m
-  pub stored : ys ≡ sets xs out (answersOf (stepOf (chipOf m) r ∷ []))
+  pub refusal : o .refusal ≡ stepOf (chipOf m) r .refusal
+  pub bytes : answerBytes asked o ≡ answerBytes asked (outcome (chipOf m) r)
 
--- two bytes stored one after the other
-abbrev pub pair : List ℕ → ℕ → ℕ → ℕ → List ℕ
-pair xs out a b = set (set xs out a) (out + 1) b
+-- the bytes of an answer are the same, with the set left out or worked out where it is asked for
+asked-bytes : (asked : Bool) (o : Outcome) → answerBytes asked (askedOutcome asked o) ≡ answerBytes asked o
+asked-bytes true o = refl
+asked-bytes false o = refl
 
-pub ran : (m n : List ℕ) (f : Fields) (r xs : List ℕ) (out : ℕ) (o x : Outcome) → length m ≡ imageSize → recordOf f ≡ r
-    → Answered m o (outcome (chipOf m) (recordOf f)) x → Advanced m n (nextChip (chipOf m) (recordOf f))
-    → Ran m n r xs out (pair xs out (o .refusal) (o .answer))
-unfolding answersOf
-ran m n f r xs out o x e p a v =
-    let next : out + 1 ≡ suc out = omega arith in
+pub ran : (m n : List ℕ) (f : Fields) (r : List ℕ) (asked : Bool) (o x : Outcome) → length m ≡ imageSize → recordOf f ≡ r
+    → Answered m o (askedOutcome asked (outcome (chipOf m) (recordOf f))) x → Advanced m n (nextChip (chipOf m) (recordOf f))
+    → Ran m n r asked o
+ran m n f r asked o x e p a v =
     let w = v .image e in
-    subst (λ (l : List ℕ). Ran m n l xs out (pair xs out (o .refusal) (o .answer))) p
-    (record { size = w .packed .size; after = w .packed .chip; spare = w .spare; stored = rw next (ap (λ (y : Outcome). set (set xs out (y .refusal)) (suc out) (y .answer)) (a .image e)) })
+    subst (λ (l : List ℕ). Ran m n l asked o) p
+    (record {
+      size = w .packed .size;
+      after = w .packed .chip;
+      spare = w .spare;
+      refusal = ap (λ (y : Outcome). y .refusal) (a .image e);
+      bytes = ap (answerBytes asked) (a .image e) ∙ asked-bytes asked (outcome (chipOf m) (recordOf f));
+    })
 
 both : (a b : Bool) → a && b ≡ true → (a ≡ true) × (b ≡ true)
 both true b e = (refl, e)
@@ -55,12 +61,12 @@ pub one-refused : (s : Stepped) → (s .refusal ≡ 0 → ⊥) → allRefused (s
 unfolding allRefused
 one-refused s h = rw (ne-eqb (s .refusal) 0 h)
 
--- refusal and answer in the first two bytes
+-- refusal, answer and set in three bytes
 abbrev toldBy : List ℕ → Outcome
-toldBy l = record { refusal = getD l 0 0; answer = getD l 1 0 }
+toldBy l = record { refusal = getD l 0 0; answer = getD l 1 0; matched = getD l 2 0 }
 
 pub record-ran : (m r n told : List ℕ) → length m ≡ imageSize → length r ≡ recordSize
-    → told ≡ sets (0 ∷ 0 ∷ []) 0 (answersOf (stepsOf 1 (chipOf m) r)) → Moved m n (lastChip (chipOf m) (stepsOf 1 (chipOf m) r))
+    → told ≡ sets (0 ∷ 0 ∷ 0 ∷ []) 0 (answersOf true (stepsOf 1 (chipOf m) r)) → Moved m n (lastChip (chipOf m) (stepsOf 1 (chipOf m) r))
     → RefusedStay (stepsOf 1 (chipOf m) r) m n → RecordRun m r (toldBy told) n
 unfolding answersOf lastChip
 record-ran m r n told size whole stored moved stay =

@@ -1,5 +1,6 @@
 -- The run of a log from a chip that a C program holds, and its laws. Assumes nothing: these are definitions.
 use mathlib.Core.Path.{_≡_}
+use mathlib.Core.Bool.{Bool, false}
 use mathlib.Core.List.{List, [], _∷_, _++_}
 use Prim.Native.Nat.{ℕ, zero, suc, _%_}
 use lib.IntN.{ℤ}
@@ -10,21 +11,21 @@ use Rattle.controller.specs.Events.{notAnImage}
 use Rattle.mcp2515.specs.declared.Chip.{Chip}
 use Rattle.mcp2515.specs.Step.{outcome, nextChip, chipAfter, outcomes}
 use Rattle.mcp2515.specs.ChipImage.{chipOf, Moved}
-use Rattle.bus_log.specs.Log.{recordSize, recordsIn, stepsOf, lastChip, RefusedStay, answersOf}
+use Rattle.bus_log.specs.Log.{recordSize, recordsIn, stepsOf, lastChip, RefusedStay, answerBytes, answersOf}
 use Rattle.bus_log.specs.Run.{answerRoom, runRefusal, callResult, answersAfter, runResult, runAnswers}
 use Rattle.bus_log.specs.Held.{heldRefusal, Held}
 
 -- the refusal: 21, then as the run from power-on
-abbrev pub fromRefusal : List ℕ → List ℕ → List ℕ → ℕ
-fromRefusal m log answers = heldRefusal m (runRefusal (length log) (length answers))
+abbrev pub fromRefusal : Bool → List ℕ → List ℕ → List ℕ → ℕ
+fromRefusal asked m log answers = heldRefusal m (runRefusal asked (length log) (length answers))
 
 -- the result: the number of records, or minus the refusal
-unfoldable pub fromResult : List ℕ → List ℕ → List ℕ → ℤ
-fromResult m log answers = callResult (fromRefusal m log answers) (recordsIn (length log))
+unfoldable pub fromResult : Bool → List ℕ → List ℕ → List ℕ → ℤ
+fromResult asked m log answers = callResult (fromRefusal asked m log answers) (recordsIn (length log))
 
--- the answer buffer after it
-unfoldable pub fromAnswers : List ℕ → List ℕ → List ℕ → List ℕ
-fromAnswers m log answers = answersAfter (fromRefusal m log answers) (chipOf m) log answers
+-- the answer buffer after it, with the sets where they are asked for
+unfoldable pub fromAnswers : Bool → List ℕ → List ℕ → List ℕ → List ℕ
+fromAnswers asked m log answers = answersAfter asked (fromRefusal asked m log answers) (chipOf m) log answers
 
 -- the chip after the records of a log
 abbrev pub chipFrom : Chip → List ℕ → Chip
@@ -43,48 +44,48 @@ pub record RecordRun (m r : List ℕ) (o : Outcome) (n : List ℕ) : Type 0 wher
 abbrev pub FromPowerOn : Type 0
 FromPowerOn =
     (log answers : List ℕ)
-    → (fromResult powerOnBytes log answers ≡ runResult (length log) (length answers))
-    × (fromAnswers powerOnBytes log answers ≡ runAnswers log answers)
+    → (fromResult false powerOnBytes log answers ≡ runResult (length log) (length answers))
+    × (fromAnswers false powerOnBytes log answers ≡ runAnswers log answers)
 
 -- A log a ++ b that is run from the chip m, with a cut between two records: a is run into the first of the answer bytes, and b
 -- into those behind them from n, in which the run of a left the chip. Neither is refused, the answers are those of the whole,
 -- and so is the chip at the end.
-pub record InParts (m n a b answers : List ℕ) : Type 0 where
-  pub first : fromRefusal m a (take (answerRoom (recordsIn (length a))) answers) ≡ 0
-  pub second : fromRefusal n b (drop (answerRoom (recordsIn (length a))) answers) ≡ 0
-  pub joined : fromAnswers m (a ++ b) answers
-      ≡ fromAnswers m a (take (answerRoom (recordsIn (length a))) answers)
-      ++ fromAnswers n b (drop (answerRoom (recordsIn (length a))) answers)
+pub record InParts (asked : Bool) (m n a b answers : List ℕ) : Type 0 where
+  pub first : fromRefusal asked m a (take (answerRoom asked (recordsIn (length a))) answers) ≡ 0
+  pub second : fromRefusal asked n b (drop (answerRoom asked (recordsIn (length a))) answers) ≡ 0
+  pub joined : fromAnswers asked m (a ++ b) answers
+      ≡ fromAnswers asked m a (take (answerRoom asked (recordsIn (length a))) answers)
+      ++ fromAnswers asked n b (drop (answerRoom asked (recordsIn (length a))) answers)
   pub end : chipFrom (chipOf m) (a ++ b) ≡ chipFrom (chipOf n) b
 
 abbrev pub RunsJoin : Type 0
 RunsJoin =
-    (m n a b answers : List ℕ) → length a % recordSize ≡ 0 → fromRefusal m (a ++ b) answers ≡ 0
-    → Held 0 m n (chipFrom (chipOf m) a) → InParts m n a b answers
+    (asked : Bool) (m n a b answers : List ℕ) → length a % recordSize ≡ 0 → fromRefusal asked m (a ++ b) answers ≡ 0
+    → Held 0 m n (chipFrom (chipOf m) a) → InParts asked m n a b answers
 
 -- the first n records of a log
 unfoldable pub recordsOf : ℕ → List ℕ → List (List ℕ)
 recordsOf zero log = []
 recordsOf (suc n) log = take recordSize log ∷ recordsOf n (drop recordSize log)
 
--- refusal and answer of each outcome
-unfoldable pub toldBytes : List Outcome → List ℕ
-toldBytes [] = []
-toldBytes (o ∷ os) = o .refusal ∷ o .answer ∷ toldBytes os
+-- the answer bytes of each outcome
+unfoldable pub toldBytes : Bool → List Outcome → List ℕ
+toldBytes asked [] = []
+toldBytes asked (o ∷ os) = answerBytes asked o ++ toldBytes asked os
 
 -- the run of a log is that of its records, one step after the other
 abbrev pub RecordByRecord : Type 0
 RecordByRecord =
-    (n : ℕ) (c : Chip) (log : List ℕ)
-    → (answersOf (stepsOf n c log) ≡ toldBytes (outcomes c (recordsOf n log)))
+    (asked : Bool) (n : ℕ) (c : Chip) (log : List ℕ)
+    → (answersOf asked (stepsOf n c log) ≡ toldBytes asked (outcomes c (recordsOf n log)))
     × (lastChip c (stepsOf n c log) ≡ chipAfter c (recordsOf n log))
 
 -- what the call promises of the chip m, the log and the answer buffer that it is lent, of n and after in which it leaves them, and
 -- of its result r
-pub record RunningFrom (m log answers n after : List ℕ) (r : ℤ) : Type 0 where
-  pub result : r ≡ fromResult m log answers
-  pub buffer : after ≡ fromAnswers m log answers
-  pub chip : Held (fromRefusal m log answers) m n (chipFrom (chipOf m) log)
+pub record RunningFrom (asked : Bool) (m log answers n after : List ℕ) (r : ℤ) : Type 0 where
+  pub result : r ≡ fromResult asked m log answers
+  pub buffer : after ≡ fromAnswers asked m log answers
+  pub chip : Held (fromRefusal asked m log answers) m n (chipFrom (chipOf m) log)
   -- a log of which the chip refuses each record changes no byte of it
   pub kept : RefusedStay (stepsOf (recordsIn (length log)) (chipOf m) log) m n
   pub power-on : FromPowerOn

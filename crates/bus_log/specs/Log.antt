@@ -1,13 +1,14 @@
 -- A bus log: records of 16 bytes with no header, each a step of the chip. Assumes nothing: these are definitions.
 use mathlib.Core.Path.{_≡_}
 use mathlib.Core.Bool.{Bool, true, cond, not, _&&_}
-use mathlib.Core.List.{List, [], _∷_}
+use mathlib.Core.List.{List, [], _∷_, _++_}
 use Prim.Native.Nat.{ℕ, zero, suc, _/_, _%_}
 use lib.Dec.{eqb, ltb}
 use lib.ListN.{take, drop}
+use Rattle.records.specs.declared.Outcome.{Outcome}
 use Rattle.mcp2515.specs.declared.Chip.{Chip}
 use Rattle.mcp2515.specs.declared.Stepped.{Stepped}
-use Rattle.mcp2515.specs.Step.{stepOf}
+use Rattle.mcp2515.specs.Step.{stepOf, outcomeIn}
 
 -- the bytes of a record
 abbrev pub recordSize : ℕ
@@ -66,7 +67,11 @@ allRefused (s ∷ ss) = not (eqb (s .refusal) 0) && allRefused ss
 abbrev pub RefusedStay : List Stepped → List ℕ → List ℕ → Type 0
 RefusedStay ss m n = allRefused ss ≡ true → n ≡ m
 
--- the answer bytes of some steps: refusal and answer of each
-unfoldable pub answersOf : List Stepped → List ℕ
-answersOf [] = []
-answersOf (s ∷ ss) = s .refusal ∷ s .answer ∷ answersOf ss
+-- the bytes of an answer: refusal and answer, and where it is asked for the set
+abbrev pub answerBytes : Bool → Outcome → List ℕ
+answerBytes asked o = o .refusal ∷ o .answer ∷ cond asked (o .matched ∷ []) []
+
+-- .. of some steps
+unfoldable pub answersOf : Bool → List Stepped → List ℕ
+answersOf asked [] = []
+answersOf asked (s ∷ ss) = answerBytes asked (outcomeIn s) ++ answersOf asked ss

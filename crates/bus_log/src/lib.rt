@@ -13,9 +13,10 @@ ghost use Rattle.bus_log.specs.Log.{
   stepsOf,
   lastChip,
   RefusedStay,
+  answerBytes,
   answersOf,
 };
-ghost use Rattle.bus_log.specs.Run.{answerRoom, runRefusal, runResult, runAnswers};
+ghost use Rattle.bus_log.specs.Run.{answerSize, answerRoom, runRefusal, runResult, runAnswers};
 ghost use Rattle.bus_log.specs.Held.{heldRefusal};
 ghost use Rattle.bus_log.specs.From.{RecordRun, RunningFrom};
 use image::SIZE;
@@ -28,8 +29,10 @@ pub const RECORD_SIZE: usize = 16;
 // The most records that a log may have.
 pub const MAX_RECORDS: usize = 65535;
 
-// Refusal and answer of a record.
+// Refusal and answer of a record, and the same with its set, the filters that match its frame.
 pub const ANSWER_SIZE: usize = 2;
+
+pub const ANSWER_SET_SIZE: usize = 3;
 
 // The length is no multiple of the record size.
 pub const LENGTH_REFUSAL: u8 = 6;
@@ -67,23 +70,47 @@ fn fields_within(log: &[u8], at: usize) -> Fields
     }
 }
 
-// Runs count records over an image and stores refusal and answer of each.
-fn run_records<'a>(image: &'a mut [u8], log: &'a [u8], answers: &'a mut [u8], count: usize)
-    requires { ⌜ (length (now image) ≡ imageSize) × (count * recordSize ≤ length (now log)) × (answerRoom count ≤ length (now answers)) ⌝ }
-    ensures { λ _. ⌜ now (answers .exit) ≡ sets (now (answers .entry)) 0 (answersOf (stepsOf count (chipOf (now (image .entry))) (now (log .entry)))) ⌝ }
+// The bytes of an answer.
+pub fn answer_size(asked: bool) -> usize
+    ensures { λ r. ⌜ r ≡ answerSize asked ⌝ }
+{
+    if asked { ANSWER_SET_SIZE } else { ANSWER_SIZE }
+}
+
+// Stores refusal and answer of a record at a place, and where it is asked for its set.
+fn put_answer(answers: &mut [u8], at: usize, told: Outcome, asked: bool)
+    requires { ⌜ at + answerSize asked ≤ length (now answers) ⌝ }
+    ensures { λ _. ⌜ now (answers .exit) ≡ sets (now (answers .entry)) at (answerBytes asked told) ⌝ }
+{
+    answers[at] = told.refusal;
+    answers[at + 1] = told.answer;
+    if asked {
+        answers[at + 2] = told.matched;
+    }
+}
+
+// Runs count records over an image and stores refusal and answer of each, and its set where it is asked for.
+fn run_records<'a>(
+    image: &'a mut [u8],
+    log: &'a [u8],
+    answers: &'a mut [u8],
+    count: usize,
+    asked: bool,
+)
+    requires { ⌜ (length (now image) ≡ imageSize) × (count * recordSize ≤ length (now log)) × (answerRoom asked count ≤ length (now answers)) ⌝ }
+    ensures { λ _. ⌜ now (answers .exit) ≡ sets (now (answers .entry)) 0 (answersOf asked (stepsOf count (chipOf (now (image .entry))) (now (log .entry)))) ⌝ }
     ensures { λ _. ⌜ Moved (now (image .entry)) (now (image .exit)) (lastChip (chipOf (now (image .entry))) (stepsOf count (chipOf (now (image .entry))) (now (log .entry)))) ⌝ }
     ensures { λ _. ⌜ RefusedStay (stepsOf count (chipOf (now (image .entry))) (now (log .entry))) (now (image .entry)) (now (image .exit)) ⌝ }
 {
+    let size = answer_size(asked);
     let mut left = count;
     let mut at = 0;
     let mut out = 0;
     while left > 0 {
-        let second = out + 1;
-        let told = mcp2515::step_in_place(image, fields_within(log, at));
-        answers[out] = told.refusal;
-        answers[second] = told.answer;
+        let told = mcp2515::step_in_place(image, fields_within(log, at), asked);
+        put_answer(answers, out, told, asked);
         at += RECORD_SIZE;
-        out += ANSWER_SIZE;
+        out += size;
         left -= 1;
     }
 }
@@ -97,19 +124,22 @@ pub fn run_record<'a>(image: &'a mut [u8], record: &'a [u8]) -> Outcome
         return Outcome {
             refusal: REFUSED_FIELD,
             answer: 0,
+            matched: 0,
         };
     }
     if record.len() != RECORD_SIZE {
         return Outcome {
             refusal: REFUSED_FIELD,
             answer: 0,
+            matched: 0,
         };
     }
-    let mut told = [0u8; ANSWER_SIZE];
-    run_records(image, record, &mut told, 1);
+    let mut told = [0u8; ANSWER_SET_SIZE];
+    run_records(image, record, &mut told, 1, true);
     Outcome {
         refusal: told[0],
         answer: told[1],
+        matched: told[2],
     }
 }
 
@@ -134,10 +164,10 @@ pub fn log_refusal(size: usize) -> u8
 }
 
 // The same with room for so many answer bytes.
-fn run_refusal(size: usize, room: usize) -> u8
-    ensures { λ r. ⌜ r ≡ runRefusal size room ⌝ }
+fn run_refusal(size: usize, room: usize, asked: bool) -> u8
+    ensures { λ r. ⌜ r ≡ runRefusal asked size room ⌝ }
 {
-    let needed = ANSWER_SIZE * (size / RECORD_SIZE);
+    let needed = answer_size(asked) * (size / RECORD_SIZE);
     let of_log = log_refusal(size);
     if of_log > 0 {
         return of_log;
@@ -168,16 +198,16 @@ pub fn minus(refusal: u8) -> i64
 
 // Runs a log from the chip that is lent and leaves the chip after it there: stores refusal and answer of
 // each record and returns the number of records, or changes nothing and returns minus the refusal.
-pub fn run_from<'a>(chip: &'a mut [u8], log: &'a [u8], answers: &'a mut [u8]) -> i64
-    ensures { λ r. ⌜ RunningFrom (now (chip .entry)) (now (log .entry)) (now (answers .entry)) (now (chip .exit)) (now (answers .exit)) r ⌝ }
+pub fn run_from<'a>(chip: &'a mut [u8], log: &'a [u8], answers: &'a mut [u8], asked: bool) -> i64
+    ensures { λ r. ⌜ RunningFrom asked (now (chip .entry)) (now (log .entry)) (now (answers .entry)) (now (chip .exit)) (now (answers .exit)) r ⌝ }
 {
     let size = log.len();
-    let refusal = held_refusal(chip, run_refusal(size, answers.len()));
+    let refusal = held_refusal(chip, run_refusal(size, answers.len(), asked));
     if refusal > 0 {
         return minus(refusal);
     }
     let count = size / RECORD_SIZE;
-    run_records(chip, log, answers, count);
+    run_records(chip, log, answers, count, asked);
     count as i64
 }
 
@@ -188,5 +218,5 @@ pub extern "C" fn mcp2515_run_log(log: &[u8], answers: &mut [u8]) -> i64
     ensures buffer { λ _. ⌜ now (answers .exit) ≡ runAnswers (now (log .entry)) (now (answers .entry)) ⌝ }
 {
     let mut image = image::power_on();
-    run_from(&mut image, log, answers)
+    run_from(&mut image, log, answers, false)
 }

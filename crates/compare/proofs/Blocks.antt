@@ -2,7 +2,7 @@
 use mathlib.Core.Path.{_≡_, refl, ap, ap₂, sym, _∙_}
 use mathlib.Core.Bool.{Bool, true, false, cond, not, _&&_}
 use mathlib.Core.List.{List, [], _∷_, _++_}
-use Prim.Native.Nat.{ℕ, zero, suc, _+_, _*_, _-_, _<_, _≤_}
+use Prim.Native.Nat.{ℕ, zero, suc, _+_, _*_, _-_, _^_, _<_, _≤_}
 use native.Mathlib.Omega.{arith}
 use borrow.Author.Tests.{ltb-false}
 use mir.Val.{boolByte}
@@ -20,7 +20,7 @@ use Rattle.compare.proofs.Tests.{same-equal, differs-itself, told-same}
 
 -- the differences by the answer bytes of both runs, whatever stands behind these
 by-answers : (n k : ℕ) (c d : Chip) (a b x y : List ℕ)
-    → differencesIn n k a (answersOf (stepsOf n c a) ++ x) b (answersOf (stepsOf n d b) ++ y) ≡ differencesFrom n k c d a b
+    → differencesIn n k a (answersOf true (stepsOf n c a) ++ x) b (answersOf true (stepsOf n d b) ++ y) ≡ differencesFrom n k c d a b
 unfolding differencesIn differencesFrom stepsOf answersOf
 by-answers zero k c d a b x y = refl
 by-answers (suc n) k c d a b x y =
@@ -180,16 +180,16 @@ next-item : (left done at out : ℕ) (a told b other : List ℕ) → 0 < left
     → differencesIn left done (drop at a) (drop out told) (drop at b) (drop out other)
     ≡ itemIf (differs (recordAt a at) (toldBy (drop out told)) (recordAt b at) (toldBy (drop out other)))
     (record { number = done + 1; first = toldBy (drop out told); second = toldBy (drop out other) })
-    (differencesIn (left - 1) (done + 1) (drop (at + recordSize) a) (drop (out + 2) told) (drop (at + recordSize) b) (drop (out + 2) other))
+    (differencesIn (left - 1) (done + 1) (drop (at + recordSize) a) (drop (out + 3) told) (drop (at + recordSize) b) (drop (out + 3) other))
 unfolding differencesIn
 next-item zero done at out a told b other more = absurd (omega arith)
 next-item (suc n) done at out a told b other more =
     let less : suc n - 1 ≡ n = omega arith in
     let number : done + 1 ≡ suc done = omega arith in
-    rw (less, number, drop-drop recordSize at a, drop-drop recordSize at b, drop-drop 2 out told, drop-drop 2 out other)
+    rw (less, number, drop-drop recordSize at a, drop-drop recordSize at b, drop-drop 3 out told, drop-drop 3 out other)
 
 -- the code's test of a record, with refusal and answer as one number
-test-is : (same : Bool) (one two : ℕ) (r s : List ℕ) (o p : Outcome) → one < 65536 → two < 65536
+test-is : (same : Bool) (one two : ℕ) (r s : List ℕ) (o p : Outcome) → one < 2 ^ 24 → two < 2 ^ 24
     → same ≡ sameBytes r s → toldIn one ≡ o → toldIn two ≡ p → not (same && eqb one two) ≡ differs r o s p
 test-is same one two r s o p h i e f g = rw (e, ← f, ← g, told-same one two h i)
 
@@ -218,13 +218,13 @@ pub parts-sizes : {whole part rest : List Difference} → Parts whole part rest 
 parts-sizes {part = part} {rest = rest} p = rw (p .split) (length-append part rest)
 
 module _ (left done at out : ℕ) (a told b other : List ℕ) (same : Bool) (one two : ℕ) (more : 0 < left)
-    (small : one < 65536) (small-2 : two < 65536) (record-same : same ≡ sameBytes (recordAt a at) (recordAt b at))
+    (small : one < 2 ^ 24) (small-2 : two < 2 ^ 24) (record-same : same ≡ sameBytes (recordAt a at) (recordAt b at))
     (first : toldIn one ≡ toldBy (drop out told)) (second : toldIn two ≡ toldBy (drop out other)) where
   abbrev here : List Difference
   here = differencesIn left done (drop at a) (drop out told) (drop at b) (drop out other)
 
   abbrev rest : List Difference
-  rest = differencesIn (left - 1) (done + 1) (drop (at + recordSize) a) (drop (out + 2) told) (drop (at + recordSize) b) (drop (out + 2) other)
+  rest = differencesIn (left - 1) (done + 1) (drop (at + recordSize) a) (drop (out + 3) told) (drop (at + recordSize) b) (drop (out + 3) other)
 
   abbrev item : Difference
   item = record { number = done + 1; first = toldIn one; second = toldIn two }
@@ -245,8 +245,8 @@ module _ (left done at out : ℕ) (a told b other : List ℕ) (same : Bool) (one
 
 -- ---- one block
 module _ (n left done : ℕ) (c d e f : Chip) (a b told other x y : List ℕ) (some : n ≤ left)
-    (first : told ≡ answersOf (stepsOf n c (drop (done * recordSize) a)) ++ x)
-    (second : other ≡ answersOf (stepsOf n d (drop (done * recordSize) b)) ++ y)
+    (first : told ≡ answersOf true (stepsOf n c (drop (done * recordSize) a)) ++ x)
+    (second : other ≡ answersOf true (stepsOf n d (drop (done * recordSize) b)) ++ y)
     (next : e ≡ lastChip c (stepsOf n c (drop (done * recordSize) a)))
     (next-2 : f ≡ lastChip d (stepsOf n d (drop (done * recordSize) b))) where
   abbrev block : List Difference

@@ -50,10 +50,10 @@ same-swap (x ∷ xs) (y ∷ ys) = rw (eqb-swap x y, same-swap xs ys)
 
 -- a record that is told the same in both logs does not differ
 pub differs-itself : (r : List ℕ) (o : Outcome) → differs r o r o ≡ false
-differs-itself r o = rw (same-itself r, eq-eqb (o .refusal) (o .refusal) refl, eq-eqb (o .answer) (o .answer) refl)
+differs-itself r o = rw (same-itself r, eq-eqb (o .refusal) (o .refusal) refl, eq-eqb (o .answer) (o .answer) refl, eq-eqb (o .matched) (o .matched) refl)
 
 pub differs-swap : (r s : List ℕ) (o p : Outcome) → differs r o s p ≡ differs s p r o
-differs-swap r s o p = rw (same-swap r s, eqb-swap (o .refusal) (p .refusal), eqb-swap (o .answer) (p .answer))
+differs-swap r s o p = rw (same-swap r s, eqb-swap (o .refusal) (p .refusal), eqb-swap (o .answer) (p .answer), eqb-swap (o .matched) (p .matched))
 
 -- ---- words of bytes
 -- two numbers are the same where their low bytes and the rest are
@@ -89,9 +89,9 @@ halves-same a b at x y z w hx hy hz hw ex ey ez ew =
     rw (halves a, halves b, ← ex, ← ey, ← ez, ← ew)
     (sym (same-append (bytesOf 8 x) (bytesOf 8 y) (bytesOf 8 z) (bytesOf 8 w) refl ∙ rw (bytes-same 8 x y hx hy, bytes-same 8 z w hz hw)))
 
--- refusal and answer are the same where the numbers that hold both are
-pub told-same : (x y : ℕ) → x < 65536 → y < 65536 → eqb x y ≡ sameOutcome (toldIn x) (toldIn y)
+-- refusal, answer and set are the same where the numbers that hold all three are
+pub told-same : (x y : ℕ) → x < 2 ^ 24 → y < 2 ^ 24 → eqb x y ≡ sameOutcome (toldIn x) (toldIn y)
 told-same x y hx hy =
-    let tx : x / 256 % 256 ≡ x / 256 = omega arith in
-    let ty : y / 256 % 256 ≡ y / 256 = omega arith in
-    rw (tx, ty) (sym (low-and-rest x y))
+    let tx : x / 0x10000 % 256 ≡ x / 256 / 256 = omega arith in
+    let ty : y / 0x10000 % 256 ≡ y / 256 / 256 = omega arith in
+    rw (tx, ty, and-assoc, low-and-rest (x / 256) (y / 256)) (sym (low-and-rest x y))

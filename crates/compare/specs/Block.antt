@@ -21,13 +21,13 @@ abbrev pub bytesOf : ℕ → ℕ → List ℕ
 bytesOf zero x = []
 bytesOf (suc n) x = x % 256 ∷ bytesOf n (x / 256)
 
--- refusal and answer in the first two of some bytes
+-- refusal, answer and set in the first three of some bytes
 abbrev pub toldBy : List ℕ → Outcome
-toldBy told = record { refusal = getD told 0 0; answer = getD told 1 0 }
+toldBy told = record { refusal = getD told 0 0; answer = getD told 1 0; matched = getD told 2 0 }
 
 -- the same in one number, the refusal in the low byte
 abbrev pub toldIn : ℕ → Outcome
-toldIn x = record { refusal = x % 256; answer = x / 256 % 256 }
+toldIn x = record { refusal = x % 256; answer = x / 256 % 256; matched = x / 0x10000 % 256 }
 
 -- the differences of the next n records of the logs a and b with the answer bytes of either
 unfoldable pub differencesIn : ℕ → ℕ → List ℕ → List ℕ → List ℕ → List ℕ → List Difference
@@ -35,7 +35,7 @@ differencesIn zero before a told b other = []
 differencesIn (suc n) before a told b other =
     itemIf (differs (take recordSize a) (toldBy told) (take recordSize b) (toldBy other))
     (record { number = suc before; first = toldBy told; second = toldBy other })
-    (differencesIn n (suc before) (drop recordSize a) (drop 2 told) (drop recordSize b) (drop 2 other))
+    (differencesIn n (suc before) (drop recordSize a) (drop 3 told) (drop recordSize b) (drop 3 other))
 
 -- a run of the first count records of a log over the chip bytes m, left as n; `Ran`: with their answers stored in told, left as after
 pub record Ahead (count : ℕ) (log m n : List ℕ) : Type 0 where
@@ -44,7 +44,7 @@ pub record Ahead (count : ℕ) (log m n : List ℕ) : Type 0 where
 
 pub record Ran (count : ℕ) (log m n told after : List ℕ) : Type 0 where
   pub ahead : Ahead count log m n
-  pub answers : after ≡ answersOf (stepsOf count (chipOf m) log) ++ drop (answerRoom count) told
+  pub answers : after ≡ answersOf true (stepsOf count (chipOf m) log) ++ drop (answerRoom true count) told
 
 -- an output that is empty, or has room for n entries
 abbrev pub HasRoom : ℕ → List ℕ → Type 0

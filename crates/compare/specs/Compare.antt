@@ -21,13 +21,13 @@ sameBytes (x ∷ xs) [] = false
 sameBytes (x ∷ xs) (y ∷ ys) = eqb x y && sameBytes xs ys
 
 abbrev pub sameOutcome : Outcome → Outcome → Bool
-sameOutcome o p = eqb (o .refusal) (p .refusal) && eqb (o .answer) (p .answer)
+sameOutcome o p = eqb (o .refusal) (p .refusal) && eqb (o .answer) (p .answer) && eqb (o .matched) (p .matched)
 
--- a difference in record, refusal or answer counts: r with o in the first log, s with p in the second
+-- a difference in record, refusal, answer or set counts: r with o in the first log, s with p in the second
 abbrev pub differs : List ℕ → Outcome → List ℕ → Outcome → Bool
 differs r o s p = not (sameBytes r s && sameOutcome o p)
 
--- a record number, from 1, with refusal and answer of either log
+-- a record number, from 1, with refusal, answer and set of either log
 pub record Difference : Type 0 where
   pub number : ℕ
   pub first : Outcome
@@ -62,17 +62,17 @@ fourBytes n = n / 0x1000000 % 256 ∷ n / 0x10000 % 256 ∷ n / 0x100 % 256 ∷ 
 abbrev pub twoBytes : Outcome → List ℕ
 twoBytes o = o .refusal ∷ o .answer ∷ []
 
--- an entry: the number, refusal and answer of the first log, and of the second
+-- an entry: the number, refusal and answer of the first log, and of the second, the set of the first, and of the second
 abbrev pub entryOf : Difference → List ℕ
-entryOf d = fourBytes (d .number) ++ twoBytes (d .first) ++ twoBytes (d .second)
+entryOf d = fourBytes (d .number) ++ twoBytes (d .first) ++ twoBytes (d .second) ++ (d .first .matched ∷ d .second .matched ∷ [])
 
 unfoldable pub entriesOf : List Difference → List ℕ
 entriesOf [] = []
 entriesOf (d ∷ ds) = entryOf d ++ entriesOf ds
 
--- the bytes of n entries: eight each
+-- the bytes of n entries: ten each
 abbrev pub entryRoom : ℕ → ℕ
-entryRoom n = 8 * n
+entryRoom n = 10 * n
 
 -- ---- refusals: 6 then 8 of the first log, the same of the second, then 7 for room that is too short for all the entries, else 0
 abbrev pub roomLack : List ℕ → List ℕ → ℕ → ℕ

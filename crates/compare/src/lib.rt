@@ -34,19 +34,19 @@ ghost use Rattle.compare.specs.Block.{
   agreeingOf,
   comparedBy,
 };
-use bus_log::ANSWER_SIZE;
+use bus_log::ANSWER_SET_SIZE;
 use bus_log::RECORD_SIZE;
 use bus_log::ROOM_REFUSAL;
 use image::SIZE;
 
-// A record number in four bytes, then refusal and answer of either log.
-const ENTRY_SIZE: usize = 8;
+// A record number in four bytes, then refusal and answer of either log, then the set of either.
+const ENTRY_SIZE: usize = 10;
 
 // Records are run a block at a time, and the answers of a block compared: the step then runs in the loop
 // in which it is fastest.
 const BLOCK: usize = 512;
 
-const BLOCK_ANSWERS: usize = ANSWER_SIZE * BLOCK;
+const BLOCK_ANSWERS: usize = ANSWER_SET_SIZE * BLOCK;
 
 // ---- records that are the same
 // Eight bytes as one number, low byte first.
@@ -99,30 +99,23 @@ fn run_block<'a>(
     count: usize,
     told: &'a mut [u8],
 )
-    requires { ⌜ (isChip (now image) ≡ true) × ((before + count) * recordSize ≤ length (now log)) × (count ≤ maxRecords) × (answerRoom count ≤ length (now told)) ⌝ }
+    requires { ⌜ (isChip (now image) ≡ true) × ((before + count) * recordSize ≤ length (now log)) × (count ≤ maxRecords) × (answerRoom true count ≤ length (now told)) ⌝ }
     ensures { λ _. ⌜ Ran count (drop (before * recordSize) (now (log .entry))) (now (image .entry)) (now (image .exit)) (now (told .entry)) (now (told .exit)) ⌝ }
 {
     let at = before * RECORD_SIZE;
     let end = at + count * RECORD_SIZE;
-    bus_log::run_from(image, &log[at..end], told);
+    bus_log::run_from(image, &log[at..end], told, true);
 }
 
-// Two bytes as one number, low byte first.
-fn paired(a: u8, b: u8) -> u16
-    ensures { λ r. ⌜ (r % 256 ≡ a) × (r / 256 % 256 ≡ b) ⌝ }
+// Refusal, answer and set at a place as one number, low byte first, so that one test compares all three.
+fn told_at(told: &[u8], at: usize) -> u32
+    requires { ⌜ at + 3 ≤ length (now told) ⌝ }
+    ensures { λ r. ⌜ (toldIn r ≡ toldBy (drop at (now (told .entry)))) × (r < 2 ^ 24) ⌝ }
 {
-    a as u16 + b as u16 * 256
+    records::joined(0, told[at + 2], told[at + 1], told[at])
 }
 
-// Refusal and answer at a place as one number, so that one test compares both.
-fn told_at(told: &[u8], at: usize) -> u16
-    requires { ⌜ at + 2 ≤ length (now told) ⌝ }
-    ensures { λ r. ⌜ toldIn r ≡ toldBy (drop at (now (told .entry))) ⌝ }
-{
-    paired(told[at], told[at + 1])
-}
-
-fn put_entry(entries: &mut [u8], at: usize, number: usize, one: u16, two: u16)
+fn put_entry(entries: &mut [u8], at: usize, number: usize, one: u32, two: u32)
     requires { ⌜ at + entryRoom 1 ≤ length (now entries) ⌝ }
     ensures { λ _. ⌜ now (entries .exit) ≡ sets (now (entries .entry)) at (entryOf (record { number = number; first = toldIn one; second = toldIn two })) ⌝ }
 {
@@ -134,9 +127,11 @@ fn put_entry(entries: &mut [u8], at: usize, number: usize, one: u16, two: u16)
     entries[at + 5] = (one / 256 % 256) as u8;
     entries[at + 6] = (two % 256) as u8;
     entries[at + 7] = (two / 256 % 256) as u8;
+    entries[at + 8] = (one / 0x10000 % 256) as u8;
+    entries[at + 9] = (two / 0x10000 % 256) as u8;
 }
 
-fn put_entry_if(test: bool, entries: &mut [u8], at: usize, number: usize, one: u16, two: u16)
+fn put_entry_if(test: bool, entries: &mut [u8], at: usize, number: usize, one: u32, two: u32)
     requires { ⌜ (test ≡ true → at + entryRoom 1 ≤ length (now entries)) ⌝ }
     ensures { λ _. ⌜ now (entries .exit) ≡ cond test (sets (now (entries .entry)) at (entryOf (record { number = number; first = toldIn one; second = toldIn two }))) (now (entries .entry)) ⌝ }
 {
@@ -157,7 +152,7 @@ fn list_block<'a>(
     entries: &'a mut [u8],
     found: usize,
 ) -> usize
-    requires { ⌜ ((before + count) * recordSize ≤ length (now first)) × ((before + count) * recordSize ≤ length (now second)) × (answerRoom count ≤ length (now told)) × (answerRoom count ≤ length (now other)) × (found ≤ before) ⌝ }
+    requires { ⌜ ((before + count) * recordSize ≤ length (now first)) × ((before + count) * recordSize ≤ length (now second)) × (answerRoom true count ≤ length (now told)) × (answerRoom true count ≤ length (now other)) × (found ≤ before) ⌝ }
     requires { ⌜ HasRoom (found + length (differencesIn count before (drop (before * recordSize) (now first)) (now told) (drop (before * recordSize) (now second)) (now other))) (now entries) ⌝ }
     ensures { λ r. ⌜ Listing (differencesIn count before (drop (before * recordSize) (now (first .entry))) (now (told .entry)) (drop (before * recordSize) (now (second .entry))) (now (other .entry))) found (now (entries .entry)) (now (entries .exit)) r ⌝ }
 {
@@ -175,7 +170,7 @@ fn list_block<'a>(
         put_entry_if(storing & differs, entries, place, done + 1, one, two);
         listed += differs as usize;
         at += RECORD_SIZE;
-        out += ANSWER_SIZE;
+        out += ANSWER_SET_SIZE;
         done += 1;
         left -= 1;
     }

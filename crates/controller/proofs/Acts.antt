@@ -1,38 +1,60 @@
 -- What the acts on an image have in common, and what the image says of mode, flight and messages. Assumes nothing.
 use mathlib.Core.Path.{_≡_, refl, ap, _∙_}
-use mathlib.Core.Bool.{Bool}
+use mathlib.Core.Bool.{Bool, true, false, cond}
 use mathlib.Core.List.{List}
 use Prim.Native.Nat.{ℕ, _+_, _<_, _≤_}
 use native.Mathlib.Omega.{arith}
 use lib.ListN.{length, getD, set, take, drop}
 use lib.Seq.{getD-take, getD-drop}
+use Rattle.bits.specs.Bit.{hasBit}
 use Rattle.records.specs.declared.Frame.{Frame}
 use Rattle.records.specs.declared.Fields.{Fields}
-use Rattle.records.specs.Records.{kindBy, kindOf, recordOf}
+use Rattle.records.specs.declared.Outcome.{Outcome}
+use Rattle.records.specs.Records.{accepted, kindBy, kindOf, recordOf}
 use Rattle.registers.specs.declared.Mode.{Mode}
 use Rattle.registers.specs.declared.TxBuffer.{TxBuffer}
 use Rattle.registers.specs.declared.Flight.{Flight}
 use Rattle.registers.specs.declared.Flight.the-variants.{Idle, Of}
 use Rattle.registers.specs.declared.Control.{Control}
 use Rattle.registers.specs.declared.Core.{Core}
-use Rattle.registers.specs.State.{txNumber, isLoopback, withFlight, withControl}
-use Rattle.receiving.specs.declared.Reception.{Reception}
-use Rattle.receiving.specs.Receiving.{receivedOf}
+use Rattle.registers.specs.State.{WAKIF, txNumber, isLoopback, withFlight, withControl}
+use Rattle.receiving.specs.declared.Reception.the-variants.{Woke}
+use Rattle.receiving.specs.Receiving.{askedSet, receivedOf, Reply, replyTo}
 use Rattle.image.specs.Image.{imageSize, modeOf, flightOf, decoded, controlOf, coreOf, Became, Acted, Answered}
 use Rattle.image.proofs.Laws.{flight-back, unmarked, mark-one, marked, followed}
 use Rattle.controller.specs.Sending.{endOf, frameAt}
-use Rattle.controller.specs.Events.{heardIn, heardOf, endsIn, endsBy, ended}
+use Rattle.controller.specs.Events.{ignored, wokenControl, sleeping, heardIn, heardOf, plainReply, refusedOutcome, endsIn, endsBy, ended}
 
 -- ---- control registers changed and put back
 pub packed : {m n : List ℕ} {c d : Control} → length m ≡ imageSize → Acted m n (withControl (coreOf m) c) → c ≡ d → Became m n (withControl (coreOf m) d)
 packed e w p = rw p at (w .image e)
 
 -- ---- a frame received by an image n, which m has become
-pub received : {m n p : List ℕ} {k : Core} {r o : Reception} (f : Frame) → Became m n k
-    → Answered n r (receivedOf (coreOf n) f .answer) o → Acted n p (receivedOf (coreOf n) f .core)
-    → (r ≡ receivedOf k f .answer) × Became m p (receivedOf k f .core)
-received f w a b =
-    (a .image (w .size) ∙ ap (λ (k : Core). receivedOf k f .answer) (w .core), followed (λ (k : Core). receivedOf k f .core) w (b .image (w .size)))
+pub received : {m n p : List ℕ} {k : Core} {r o : Reply} (asked : Bool) (f : Frame) → Became m n k
+    → Answered n r (replyTo asked (receivedOf (coreOf n) f)) o → Acted n p (receivedOf (coreOf n) f .core)
+    → (r ≡ replyTo asked (receivedOf k f)) × Became m p (receivedOf k f .core)
+received asked f w a b =
+    (a .image (w .size) ∙ ap (λ (k : Core). replyTo asked (receivedOf k f)) (w .core), followed (λ (k : Core). receivedOf k f .core) w (b .image (w .size)))
+
+-- an empty set is empty, asked for or not
+pub plainly : {r : Reply} {n : ℕ} (asked : Bool) → r ≡ plainReply n → r ≡ record { answer = n; matched = askedSet asked 0 }
+plainly true p = p
+plainly false p = p
+
+pub refusal-asked : (asked : Bool) (n : ℕ) → refusedOutcome n ≡ record { refusal = n; answer = 0; matched = askedSet asked 0 }
+refusal-asked true n = refl
+refusal-asked false n = refl
+
+pub asleep : (k : Core) → sleeping k .matched ≡ 0
+asleep k = go (hasBit (k .control .flags .caninte) WAKIF)
+  where
+    go : (b : Bool) → cond b (record { core = withControl k (wokenControl (k .control)); answer = Woke; matched = 0 }) (ignored k) .matched ≡ 0
+    go true = refl
+    go false = refl
+
+-- what an accepted event tells
+abbrev pub acceptedOf : Reply → Outcome
+acceptedOf r = record { refusal = accepted; answer = r .answer; matched = r .matched }
 
 -- ---- the buffer in flight, by its number
 pub flight-put : (m : List ℕ) (b : TxBuffer) → length m ≡ imageSize → Became m (set m 141 (txNumber b)) (withControl (coreOf m) (withFlight (controlOf m) (Of b)))

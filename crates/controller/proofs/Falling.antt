@@ -15,7 +15,7 @@ use Rattle.registers.specs.State.{withCounters}
 use Rattle.registers.specs.Errors.{errorFlags, rises, movedTo, recLess}
 use Rattle.receiving.specs.declared.Verdict.{Verdict}
 use Rattle.receiving.specs.declared.Verdict.the-variants.{Unmatched, Stored0, Stored1, RolledOver, Lost0, Lost1}
-use Rattle.receiving.specs.Receiving.{verdictOf, controlAfter, receivedOf}
+use Rattle.receiving.specs.Receiving.{verdictOf, matchOf, controlAfter, receivedOf}
 
 -- ---- the error flags by their five tests
 abbrev flagsBy : Bool → Bool → Bool → Bool → Bool → ℕ
@@ -94,5 +94,5 @@ after-counters Lost0 c remote = refl
 after-counters Lost1 c remote = refl
 
 pub received-counters : (k : Core) (f : Frame) → receivedOf k f .core .control .counters ≡ k .control .counters
-unfolding receivedOf
+unfolding receivedOf matchOf
 received-counters k f = after-counters (verdictOf (k .control) (k .config) f) (k .control) (f .remote)

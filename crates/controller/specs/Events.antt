@@ -20,7 +20,7 @@ use Rattle.registers.specs.State.{WAKIF, MERRF, isNormal, isLoopback, isIdle, w
 use Rattle.registers.specs.Errors.{isBusOff, movedTo, recLess, recMore, noErrors}
 use Rattle.registers.specs.Modes.{entered, settled}
 use Rattle.receiving.specs.declared.Reception.the-variants.{NotListening, Woke}
-use Rattle.receiving.specs.Receiving.{receptionNumber, Received, receivedOf}
+use Rattle.receiving.specs.Receiving.{receptionNumber, askedSet, Received, receivedOf, Reply}
 use Rattle.controller.specs.declared.End.{End}
 use Rattle.controller.specs.declared.End.the-variants.{Sent, LostArbitration, Failed}
 use Rattle.controller.specs.Sending.{choiceNumber, choiceOf, started, endOf, sentBy, endedBy, frameSent}
@@ -28,26 +28,29 @@ use Rattle.controller.specs.Sending.{choiceNumber, choiceOf, started, en
 -- an accepted event, before a mode request is carried out
 pub record Happened : Type 0 where
   pub answer : ℕ
+  pub matched : ℕ
   pub core : Core
 
 -- an event, accepted or refused
 pub record Told : Type 0 where
   pub refusal : ℕ
   pub answer : ℕ
+  pub matched : ℕ
   pub core : Core
 
 -- ---- kind 3: a frame
+-- a frame that is not listened to has an empty set
 abbrev pub ignored : Core → Received
-ignored k = record { core = k; answer = NotListening }
+ignored k = record { core = k; answer = NotListening; matched = 0 }
 
--- under WAKIE the frame ends Sleep: the chip is in Listen-Only, WAKIF is set, nothing is stored
+-- under WAKIE the frame ends Sleep: the chip is in Listen-Only, WAKIF is set, nothing is stored and no filter asked
 abbrev pub wokenControl : Control → Control
 wokenControl c = withCanintf (entered c ListenOnly) (setBit (c .flags .canintf) WAKIF)
 
 abbrev pub sleeping : Core → Received
 sleeping k =
     cond (hasBit (k .control .flags .caninte) WAKIF)
-    (record { core = withControl k (wokenControl (k .control)); answer = Woke })
+    (record { core = withControl k (wokenControl (k .control)); answer = Woke; matched = 0 })
     (ignored k)
 
 -- in Normal REC moves on each good frame, whether a filter takes it or none does
@@ -56,6 +59,7 @@ goodFrame k f =
     record {
       core = withControl (receivedOf k f .core) (movedTo (receivedOf k f .core .control) (recLess (k .control .counters)));
       answer = receivedOf k f .answer;
+      matched = receivedOf k f .matched;
     }
 
 -- Normal and Listen-Only hear, unless bus-off; in Sleep a frame can only wake; Loopback and Configuration are deaf
@@ -70,14 +74,25 @@ unfoldable pub heardOf : Core → Frame → Received
 heardOf k f = heardIn (k .control .state .mode) k f
 
 abbrev pub answered : Received → Happened
-answered h = record { answer = receptionNumber (h .answer); core = h .core }
+answered h = record { answer = receptionNumber (h .answer); matched = h .matched; core = h .core }
 
--- ---- kind 5: an own frame ends. Sent in Loopback, it comes back in by the receive rules, and no counter moves
+-- what an event tells that asks no filter
+abbrev pub plain : ℕ → Core → Happened
+plain n k = record { answer = n; matched = 0; core = k }
+
+abbrev pub plainReply : ℕ → Reply
+plainReply n = record { answer = n; matched = 0 }
+
+-- answer and set, the set where it is asked for
+abbrev pub replyOf : Bool → Happened → Reply
+replyOf asked h = record { answer = h .answer; matched = askedSet asked (h .matched) }
+
+-- ---- kind 5: an own frame ends. Sent in Loopback, it comes back in by the receive rules, with its set, and no counter moves
 abbrev pub delivered : Core → TxBuffer → Happened
 delivered k b = answered (receivedOf (withControl k (sentBy (k .control) b)) (frameSent (k .tx) b))
 
 abbrev pub finished : Core → TxBuffer → End → Happened
-finished k b e = record { answer = 0; core = withControl k (endedBy e (k .control) b) }
+finished k b e = plain 0 (withControl k (endedBy e (k .control) b))
 
 abbrev pub endsIn : Bool → Core → TxBuffer → End → Happened
 endsIn true k b Sent = delivered k b
@@ -86,7 +101,7 @@ endsIn true k b Failed = finished k b Failed
 endsIn false k b e = finished k b e
 
 abbrev pub endsBy : Flight → Core → End → Happened
-endsBy Idle k e = record { answer = 0; core = k }
+endsBy Idle k e = plain 0 k
 endsBy (Of b) k e = endsIn (isLoopback (k .control .state .mode)) k b e
 
 unfoldable pub ended : Core → ℕ → Happened
@@ -94,7 +109,7 @@ ended k n = endsBy (k .control .state .flight) k (endOf n)
 
 -- ---- kind 4, 6, 7
 unfoldable pub idled : Core → Happened
-idled k = record { answer = choiceNumber (choiceOf (k .control)); core = withControl k (started (choiceOf (k .control)) (k .control)) }
+idled k = plain (choiceNumber (choiceOf (k .control))) (withControl k (started (choiceOf (k .control)) (k .control)))
 
 -- REC grows by 1 where byte 1 is 0, by 8 where it is 1; MERRF; outside Normal and in bus-off nothing
 abbrev pub errorAdds : ℕ → ℕ
@@ -111,19 +126,19 @@ abbrev pub recovered : Control → Control
 recovered c = withCounters c noErrors
 
 abbrev pub quiet : Core → Control → Happened
-quiet k c = record { answer = 0; core = withControl k c }
+quiet k c = plain 0 (withControl k c)
 
 -- ---- an accepted event
 abbrev pub happensBy : Kind → Core → List ℕ → Happened
-happensBy SelectLow k r = record { answer = 0; core = k }
-happensBy Exchange k r = record { answer = 0; core = k }
-happensBy SelectHigh k r = record { answer = 0; core = k }
+happensBy SelectLow k r = plain 0 k
+happensBy Exchange k r = plain 0 k
+happensBy SelectHigh k r = plain 0 k
 happensBy FrameHeard k r = answered (heardOf k (frameOf r))
 happensBy BusIdle k r = idled k
 happensBy FrameEnds k r = ended k (byteAt r 1)
 happensBy ReceiveError k r = quiet k (errorHeard (k .control) (byteAt r 1))
 happensBy Recovery k r = quiet k (recovered (k .control))
-happensBy Unknown k r = record { answer = 0; core = k }
+happensBy Unknown k r = plain 0 k
 
 -- ---- refusals 3, 4 and 5, where refusal 2 does not name the record; any record but an event is refused as a field
 abbrev pub busyRefusal : Control → ℕ
@@ -153,24 +168,28 @@ refusalBy Unknown c r = refusedField
 unfoldable pub eventRefusal : Control → List ℕ → ℕ
 eventRefusal c r = cond (soundOf r) (refusalBy (kindOf r) c r) refusedField
 
--- ---- the event: refused, it answers 0 and changes nothing; accepted, its last act is the mode request
+-- ---- the event: refused, it answers 0 with an empty set and changes nothing; accepted, its last act is the mode request
 abbrev pub settledCore : Core → Core
 settledCore k = withControl k (settled (k .control))
 
 abbrev pub toldOf : Happened → Told
-toldOf h = record { refusal = accepted; answer = h .answer; core = settledCore (h .core) }
+toldOf h = record { refusal = accepted; answer = h .answer; matched = h .matched; core = settledCore (h .core) }
 
 abbrev pub refusedBy : ℕ → Core → Told
-refusedBy n k = record { refusal = n; answer = 0; core = k }
+refusedBy n k = record { refusal = n; answer = 0; matched = 0; core = k }
 
 unfoldable pub eventOf : Core → List ℕ → Told
 eventOf k r =
     cond (eqb (eventRefusal (k .control) r) accepted) (toldOf (happensBy (kindOf r) k r)) (refusedBy (eventRefusal (k .control) r) k)
 
--- what an event tells beside the core
-abbrev pub outcomeTold : Told → Outcome
-outcomeTold t = record { refusal = t .refusal; answer = t .answer }
+-- what an event tells beside the core, the set where it is asked for
+abbrev pub outcomeTold : Bool → Told → Outcome
+outcomeTold asked t = record { refusal = t .refusal; answer = t .answer; matched = askedSet asked (t .matched) }
+
+-- a refusal by number
+abbrev pub refusedOutcome : ℕ → Outcome
+refusedOutcome n = record { refusal = n; answer = 0; matched = 0 }
 
 -- bytes that are no image are told off as a field out of range
 abbrev pub notAnImage : Outcome
-notAnImage = record { refusal = refusedField; answer = 0 }
+notAnImage = refusedOutcome refusedField

@@ -5,7 +5,7 @@ ghost use lib.ListN.{length};
 ghost use Rattle.records.specs.Records.{recordOf};
 ghost use Rattle.registers.specs.State.{isNormal, isIdle, withControl};
 ghost use Rattle.registers.specs.Errors.{isBusOff, movedTo, recLess};
-ghost use Rattle.receiving.specs.Receiving.{receivedOf};
+ghost use Rattle.receiving.specs.Receiving.{receptionNumber, replyTo, replyIn};
 ghost use Rattle.image.specs.Image.{
   imageSize,
   controlOf,
@@ -22,6 +22,8 @@ ghost use Rattle.controller.specs.Events.{
   goodFrame,
   heardIn,
   heardOf,
+  plainReply,
+  replyOf,
   delivered,
   finished,
   endsIn,
@@ -39,6 +41,7 @@ ghost use Rattle.controller.specs.Events.{
   refusalBy,
   eventRefusal,
   eventOf,
+  refusedOutcome,
   outcomeTold,
   notAnImage,
 };
@@ -70,6 +73,13 @@ use registers::MERRF;
 use registers::Mode;
 use registers::TxBuffer;
 use registers::WAKIF;
+
+// A reply is an answer in the low byte, and in the high byte a set where one is asked for.
+fn plain(answer: u8) -> u16
+    ensures { λ r. ⌜ replyIn r ≡ plainReply answer ⌝ }
+{
+    records::paired(answer, 0)
+}
 
 fn is_bus_off(image: &[u8]) -> bool
     requires { ⌜ length (now image) ≡ imageSize ⌝ }
@@ -110,75 +120,82 @@ fn count_good(image: &mut [u8])
     image[REC] = registers::heard_rec(image[REC]);
 }
 
-fn hear_normal(image: &mut [u8], frame: Frame) -> Reception
+// The reply to a frame for which no filter is asked: its set is empty.
+fn unheard(reception: Reception) -> u16
+    ensures { λ r. ⌜ replyIn r ≡ plainReply (receptionNumber reception) ⌝ }
+{
+    plain(receiving::reception_number(reception))
+}
+
+fn hear_normal(image: &mut [u8], frame: Frame, asked: bool) -> u16
     requires { ⌜ length (now image) ≡ imageSize ⌝ }
-    ensures { λ r. ⌜ r ≡ heardIn Mode.Normal (coreOf (now (image .entry))) frame .answer ⌝ }
+    ensures { λ r. ⌜ replyIn r ≡ replyTo asked (heardIn Mode.Normal (coreOf (now (image .entry))) frame) ⌝ }
     ensures { λ _. ⌜ Became (now (image .entry)) (now (image .exit)) (heardIn Mode.Normal (coreOf (now (image .entry))) frame .core) ⌝ }
 {
     if is_bus_off(image) {
-        return Reception::NotListening;
+        return unheard(Reception::NotListening);
     }
-    let reception = receiving::receive(image, frame);
+    let reply = receiving::receive(image, frame, asked);
     count_good(image);
-    reception
+    reply
 }
 
-fn hear_only(image: &mut [u8], frame: Frame) -> Reception
+fn hear_only(image: &mut [u8], frame: Frame, asked: bool) -> u16
     requires { ⌜ length (now image) ≡ imageSize ⌝ }
-    ensures { λ r. ⌜ r ≡ heardIn Mode.ListenOnly (coreOf (now (image .entry))) frame .answer ⌝ }
+    ensures { λ r. ⌜ replyIn r ≡ replyTo asked (heardIn Mode.ListenOnly (coreOf (now (image .entry))) frame) ⌝ }
     ensures { λ _. ⌜ Became (now (image .entry)) (now (image .exit)) (heardIn Mode.ListenOnly (coreOf (now (image .entry))) frame .core) ⌝ }
 {
     if is_bus_off(image) {
-        return Reception::NotListening;
+        return unheard(Reception::NotListening);
     }
-    receiving::receive(image, frame)
+    receiving::receive(image, frame, asked)
 }
 
-fn hear(image: &mut [u8], frame: Frame) -> Reception
+fn hear(image: &mut [u8], frame: Frame, asked: bool) -> u16
     requires { ⌜ length (now image) ≡ imageSize ⌝ }
-    ensures { λ r. ⌜ r ≡ heardOf (coreOf (now (image .entry))) frame .answer ⌝ }
+    ensures { λ r. ⌜ replyIn r ≡ replyTo asked (heardOf (coreOf (now (image .entry))) frame) ⌝ }
     ensures { λ _. ⌜ Became (now (image .entry)) (now (image .exit)) (heardOf (coreOf (now (image .entry))) frame .core) ⌝ }
 {
     let mode = image::mode_of(image[MODE]);
     match mode {
-        Mode::Normal => hear_normal(image, frame),
-        Mode::Sleep => sleep(image),
-        Mode::Loopback => Reception::NotListening,
-        Mode::ListenOnly => hear_only(image, frame),
-        Mode::Configuration => Reception::NotListening,
+        Mode::Normal => hear_normal(image, frame, asked),
+        Mode::Sleep => unheard(sleep(image)),
+        Mode::Loopback => unheard(Reception::NotListening),
+        Mode::ListenOnly => hear_only(image, frame, asked),
+        Mode::Configuration => unheard(Reception::NotListening),
     }
 }
 
 // Loopback: the frame goes to the own receive rules.
-fn deliver(image: &mut [u8], buffer: TxBuffer) -> u8
+fn deliver(image: &mut [u8], buffer: TxBuffer, asked: bool) -> u16
     requires { ⌜ length (now image) ≡ imageSize ⌝ }
-    ensures { λ r. ⌜ r ≡ delivered (coreOf (now (image .entry))) buffer .answer ⌝ }
+    ensures { λ r. ⌜ replyIn r ≡ replyOf asked (delivered (coreOf (now (image .entry))) buffer) ⌝ }
     ensures { λ _. ⌜ Became (now (image .entry)) (now (image .exit)) (delivered (coreOf (now (image .entry))) buffer .core) ⌝ }
 {
-    let frame = frame_sent(image, buffer);
+    let own = frame_sent(image, buffer);
     let control = image::control_of(image);
     image::put_control(image, sent(control, buffer));
-    receiving::reception_number(receiving::receive(image, frame))
+    receiving::receive(image, own, asked)
 }
 
-fn finish(image: &mut [u8], buffer: TxBuffer, outcome: End) -> u8
+fn finish(image: &mut [u8], buffer: TxBuffer, outcome: End) -> u16
     requires { ⌜ length (now image) ≡ imageSize ⌝ }
-    ensures { λ r. ⌜ r ≡ finished (coreOf (now (image .entry))) buffer outcome .answer ⌝ }
+    ensures { λ r. ⌜ replyIn r ≡ plainReply 0 ⌝ }
     ensures { λ _. ⌜ Became (now (image .entry)) (now (image .exit)) (finished (coreOf (now (image .entry))) buffer outcome .core) ⌝ }
 {
     let control = image::control_of(image);
     image::put_control(image, end(outcome, control, buffer));
-    0
+    plain(0)
 }
 
-fn finish_in(image: &mut [u8], loopback: bool, buffer: TxBuffer, outcome: End) -> u8
+fn finish_in(image: &mut [u8], loopback: bool, buffer: TxBuffer, outcome: End, asked: bool) -> u16
     requires { ⌜ length (now image) ≡ imageSize ⌝ }
-    ensures { λ r. ⌜ r ≡ endsIn loopback (coreOf (now (image .entry))) buffer outcome .answer ⌝ }
+    ensures { λ r. ⌜ replyIn r ≡ replyOf asked (endsIn loopback (coreOf (now (image .entry))) buffer outcome) ⌝ }
     ensures { λ _. ⌜ Became (now (image .entry)) (now (image .exit)) (endsIn loopback (coreOf (now (image .entry))) buffer outcome .core) ⌝ }
 {
     if loopback {
         match outcome {
-            End::Sent => deliver(image, buffer),
+            End::Sent => deliver(image, buffer, asked),
             End::LostArbitration => finish(image, buffer, outcome),
             End::Failed => finish(image, buffer, outcome),
         }
@@ -187,16 +204,16 @@ fn finish_in(image: &mut [u8], loopback: bool, buffer: TxBuffer, outcome: End) -
     }
 }
 
-fn end_flight(image: &mut [u8], number: u8) -> u8
+fn end_flight(image: &mut [u8], number: u8, asked: bool) -> u16
     requires { ⌜ length (now image) ≡ imageSize ⌝ }
-    ensures { λ r. ⌜ r ≡ ended (coreOf (now (image .entry))) number .answer ⌝ }
+    ensures { λ r. ⌜ replyIn r ≡ replyOf asked (ended (coreOf (now (image .entry))) number) ⌝ }
     ensures { λ _. ⌜ Became (now (image .entry)) (now (image .exit)) (ended (coreOf (now (image .entry))) number .core) ⌝ }
 {
     let flight = image::flight_of(image[FLIGHT]);
     let loopback = registers::is_loopback(image::mode_of(image[MODE]));
     match flight {
-        Flight::Idle => 0,
-        Flight::Of(buffer) => finish_in(image, loopback, buffer, end_of(number)),
+        Flight::Idle => plain(0),
+        Flight::Of(buffer) => finish_in(image, loopback, buffer, end_of(number), asked),
     }
 }
 
@@ -280,30 +297,30 @@ fn recover(image: &mut [u8]) -> u8
     0
 }
 
-fn hear_frame(image: &mut [u8], fields: Fields) -> u8
+fn hear_frame(image: &mut [u8], fields: Fields, asked: bool) -> u16
     requires { ⌜ length (now image) ≡ imageSize ⌝ }
-    ensures { λ r. ⌜ r ≡ happensBy Kind.FrameHeard (coreOf (now (image .entry))) (recordOf fields) .answer ⌝ }
+    ensures { λ r. ⌜ replyIn r ≡ replyOf asked (happensBy Kind.FrameHeard (coreOf (now (image .entry))) (recordOf fields)) ⌝ }
     ensures { λ _. ⌜ Became (now (image .entry)) (now (image .exit)) (happensBy Kind.FrameHeard (coreOf (now (image .entry))) (recordOf fields) .core) ⌝ }
 {
-    receiving::reception_number(hear(image, records::frame_of(fields)))
+    hear(image, records::frame_of(fields), asked)
 }
 
 // An accepted event.
-fn happen(image: &mut [u8], kind: Kind, fields: Fields) -> u8
+fn happen(image: &mut [u8], kind: Kind, fields: Fields, asked: bool) -> u16
     requires { ⌜ length (now image) ≡ imageSize ⌝ }
-    ensures { λ r. ⌜ r ≡ happensBy kind (coreOf (now (image .entry))) (recordOf fields) .answer ⌝ }
+    ensures { λ r. ⌜ replyIn r ≡ replyOf asked (happensBy kind (coreOf (now (image .entry))) (recordOf fields)) ⌝ }
     ensures { λ _. ⌜ Became (now (image .entry)) (now (image .exit)) (happensBy kind (coreOf (now (image .entry))) (recordOf fields) .core) ⌝ }
 {
     match kind {
-        Kind::SelectLow => 0,
-        Kind::Exchange => 0,
-        Kind::SelectHigh => 0,
-        Kind::FrameHeard => hear_frame(image, fields),
-        Kind::BusIdle => idle(image),
-        Kind::FrameEnds => end_flight(image, fields.field),
-        Kind::ReceiveError => hear_error(image, fields.field),
-        Kind::Recovery => recover(image),
-        Kind::Unknown => 0,
+        Kind::SelectLow => plain(0),
+        Kind::Exchange => plain(0),
+        Kind::SelectHigh => plain(0),
+        Kind::FrameHeard => hear_frame(image, fields, asked),
+        Kind::BusIdle => plain(idle(image)),
+        Kind::FrameEnds => end_flight(image, fields.field, asked),
+        Kind::ReceiveError => plain(hear_error(image, fields.field)),
+        Kind::Recovery => plain(recover(image)),
+        Kind::Unknown => plain(0),
     }
 }
 
@@ -367,26 +384,34 @@ fn refuse(control: Control, fields: Fields) -> u8
     }
 }
 
-// One bus event: refused, it changes nothing.
-pub fn event(image: &mut [u8], fields: Fields) -> Outcome
-    ensures { λ r. ⌜ Answered (now (image .entry)) r (outcomeTold (eventOf (coreOf (now (image .entry))) (recordOf fields))) notAnImage ⌝ }
+fn refused(refusal: u8) -> Outcome
+    ensures { λ r. ⌜ r ≡ refusedOutcome refusal ⌝ }
+{
+    Outcome {
+        refusal,
+        answer: 0,
+        matched: 0,
+    }
+}
+
+// One bus event: refused, it changes nothing. The set is worked out where it is asked for, else it is 0.
+pub fn event(image: &mut [u8], fields: Fields, asked: bool) -> Outcome
+    ensures { λ r. ⌜ Answered (now (image .entry)) r (outcomeTold asked (eventOf (coreOf (now (image .entry))) (recordOf fields))) notAnImage ⌝ }
     ensures { λ _. ⌜ Acted (now (image .entry)) (now (image .exit)) (eventOf (coreOf (now (image .entry))) (recordOf fields) .core) ⌝ }
     ensures { λ r. ⌜ RefusedKept (r .refusal) (now (image .entry)) (now (image .exit)) ⌝ }
 {
     if image.len() != SIZE {
-        return Outcome {
-            refusal: REFUSED_FIELD,
-            answer: 0,
-        };
+        return refused(REFUSED_FIELD);
     }
     let refusal = refuse(image::control_of(image), fields);
     if refusal != ACCEPTED {
-        return Outcome { refusal, answer: 0 };
+        return refused(refusal);
     }
-    let answer = happen(image, records::kind_by(fields.kind), fields);
+    let reply = happen(image, records::kind_by(fields.kind), fields, asked);
     image::settle(image);
     Outcome {
         refusal: ACCEPTED,
-        answer,
+        answer: (reply % 256) as u8,
+        matched: (reply / 256) as u8,
     }
 }

@@ -16,7 +16,7 @@ pub record Stored (before : List ℕ) (at : ℕ) (text after : List ℕ) (end : 
 
 -- the lines of count records after n others were stored from the start on
 pub record Lined (c : Chip) (n count : ℕ) (part before after : List ℕ) (end : ℕ) : Type 0 where
-  pub text : Stored before 0 (linesOf n (stepsOf count c part)) after end
+  pub text : Stored before 0 (linesOf n part (stepsOf count c part)) after end
   pub most : end ≤ count * lineRoom
 
 -- the text of a stretch was stored from the start on

@@ -25,7 +25,7 @@ stretchRefusal number size =
     cond (ltb (recordsLeft number) (recordsIn size)) countRefusal
     (cond (ltb 0 (size % recordSize)) lengthRefusal 0)
 
--- the line of the record that ends the run, where one does; its answer is 0
+-- the line of the record that ends the run, where one does; its answer is 0, and it has no set
 unfoldable pub endLine : ℕ → ℕ → List ℕ
 endLine number refusal = cond (ltb 0 refusal) (lineOf number refusal 0) []
 
@@ -36,11 +36,11 @@ pub record Replay : Type 0 where
   pub number : ℕ
   pub chip : Chip
 
--- the replay of some steps after number others, ended by a refusal or, at 0, not ended
-abbrev pub replayed : Chip → ℕ → List Stepped → ℕ → Replay
-replayed c number steps refusal =
+-- the replay of the first records of a part by their steps, after number others, ended by a refusal or, at 0, not ended
+abbrev pub replayed : Chip → ℕ → List ℕ → List Stepped → ℕ → Replay
+replayed c number part steps refusal =
     record {
-      text = linesOf number steps ++ endLine (number + length steps + 1) refusal;
+      text = linesOf number part steps ++ endLine (number + length steps + 1) refusal;
       refusal = refusal;
       number = number + length steps;
       chip = lastChip c steps;
@@ -53,7 +53,7 @@ stretchSteps c number part = stepsOf (runIn number (length part)) c part
 -- the replay of a stretch
 unfoldable pub replayOf : Chip → ℕ → List ℕ → Replay
 replayOf c number part =
-    replayed c number (stretchSteps c number part) (stretchRefusal number (length part))
+    replayed c number part (stretchSteps c number part) (stretchRefusal number (length part))
 
 -- a replay and then another: the texts one after the other, and what the second leaves
 abbrev pub andThen : Replay → Replay → Replay
@@ -69,9 +69,9 @@ StretchesJoin =
     (c : Chip) (number : ℕ) (a b : List ℕ) → length a % recordSize ≡ 0
     → replayOf c number (a ++ b) ≡ followedBy (replayOf c number a) b
 
--- the most bytes of a line: ten digits for a number up to 2 ^ 32, three for each byte, three characters after them
+-- the most bytes of a line: ten digits for a number up to 2 ^ 32, three for each byte, four characters after them
 abbrev pub lineRoom : ℕ
-lineRoom = 19
+lineRoom = 23
 
 -- the room that a stretch of size bytes asks: a line for each whole record, and one more
 abbrev pub stretchRoom : ℕ → ℕ

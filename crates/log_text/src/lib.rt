@@ -7,7 +7,7 @@ ghost use Rattle.image.specs.Image.{imageSize};
 ghost use Rattle.mcp2515.specs.ChipImage.{chipOf, Moved};
 ghost use Rattle.bus_log.specs.Log.{recordSize, stepsOf, lastChip, RefusedStay};
 ghost use Rattle.log_text.specs.Decimal.{decimalOf};
-ghost use Rattle.log_text.specs.Line.{fieldOf, lineOf};
+ghost use Rattle.log_text.specs.Line.{fieldOf, lineOf, frameLineOf, recordLine};
 ghost use Rattle.log_text.specs.Stretch.{
   lineRoom,
   recordsLeft,
@@ -26,9 +26,13 @@ use bus_log::MAX_RECORDS;
 use bus_log::RECORD_SIZE;
 use bus_log::ROOM_REFUSAL;
 use mcp2515::Chip;
+use records::Outcome;
+
+// The kind of a frame.
+const FRAME: u8 = 3;
 
 // The most bytes of a line.
-const LINE_ROOM: usize = 19;
+const LINE_ROOM: usize = 23;
 
 // What a stretch leaves: 0 where the run goes on, else the refusal that ended it, or 7 for an output
 // that is too short; the bytes of text; the records run so far and the chip that they left.
@@ -88,6 +92,30 @@ fn put_line(out: &mut [u8], at: usize, number: u64, refusal: u8, answer: u8) -> 
     put_field(out, third, answer as u64, b'\n')
 }
 
+// The line of a frame has its set as a fourth number.
+fn put_frame_line(out: &mut [u8], at: usize, number: u64, told: Outcome) -> usize
+    requires { ⌜ (at + lineRoom ≤ length (now out)) × (number ≤ 2 ^ 32) ⌝ }
+    ensures line { λ r. ⌜ Stored (now (out .entry)) at (frameLineOf number told) (now (out .exit)) r ⌝ }
+    ensures most { λ r. ⌜ r ≤ at + lineRoom ⌝ }
+{
+    let second = put_field(out, at, number, b' ');
+    let third = put_field(out, second, told.refusal as u64, b' ');
+    let fourth = put_field(out, third, told.answer as u64, b' ');
+    put_field(out, fourth, told.matched as u64, b'\n')
+}
+
+// The line of a record, by its kind.
+fn put_told(out: &mut [u8], at: usize, kind: u8, number: u64, told: Outcome) -> usize
+    requires { ⌜ (at + lineRoom ≤ length (now out)) × (number ≤ 2 ^ 32) ⌝ }
+    ensures line { λ r. ⌜ Stored (now (out .entry)) at (recordLine kind number told) (now (out .exit)) r ⌝ }
+    ensures most { λ r. ⌜ r ≤ at + lineRoom ⌝ }
+{
+    if kind == FRAME {
+        return put_frame_line(out, at, number, told);
+    }
+    put_line(out, at, number, told.refusal, told.answer)
+}
+
 // The lines of count records, after number others and over the chip that they left, which lies in image.
 // Returns the bytes of text.
 fn put_records<'a>(
@@ -109,7 +137,7 @@ fn put_records<'a>(
     while left > 0 {
         let end = at + RECORD_SIZE;
         let told = bus_log::run_record(image, &part[at..end]);
-        len = put_line(out, len, n as u64 + 1, told.refusal, told.answer);
+        len = put_told(out, len, part[at], n as u64 + 1, told);
         n += 1;
         at = end;
         left -= 1;

@@ -4,7 +4,7 @@ use Rattle.registers.specs.Errors.{errorFlags, movedTo}
 use Rattle.registers.specs.Modes.{entered, freeToChange, settled}
 use Rattle.registers.specs.Registers.{regionOf, writableOf, powerOnCore, resetCore, interruptCode, canstatOf, holds, reads}
 use Rattle.stores.specs.Store.{txStored, requestedOf, requestedToSend, aborted, canctrlStored, stored, takesMask, modified}
-use Rattle.receiving.specs.Receiving.{matches, lowestFrom, hitFor, verdictOf, bytesStored, receivedOf}
+use Rattle.receiving.specs.Receiving.{matches, setOf, matchedOf, lowestFrom, hitFor, verdictOf, matchOf, bytesStored, receivedOf}
 use Rattle.controller.specs.Sending.{bestOf, choiceOf, afterFailure, sentBy, lostBy, failedBy, frameAt}
 use Rattle.controller.specs.Events.{heardOf, ended, idled, errorHeard, eventRefusal, eventOf}
 use Rattle.spi.specs.Instructions.{bufferCommand, commandOf, statusOf, rxStatusOf}
@@ -12,5 +12,5 @@ use Rattle.mcp2515.specs.Step.{powerOn, asked, turned, stepOf, chipAfter
 use Rattle.mcp2515.specs.Cases.{table, allRight, CasesHold}
 
 pub cases-hold : CasesHold
-unfolding kindOf soundOf frameOf errorFlags movedTo entered freeToChange settled regionOf writableOf powerOnCore resetCore interruptCode canstatOf holds reads txStored requestedOf requestedToSend aborted canctrlStored stored takesMask modified matches lowestFrom hitFor verdictOf bytesStored receivedOf bestOf choiceOf afterFailure sentBy lostBy failedBy frameAt heardOf ended idled errorHeard eventRefusal eventOf bufferCommand commandOf statusOf rxStatusOf powerOn asked turned stepOf chipAfter outcomes table allRight
+unfolding kindOf soundOf frameOf errorFlags movedTo entered freeToChange settled regionOf writableOf powerOnCore resetCore interruptCode canstatOf holds reads txStored requestedOf requestedToSend aborted canctrlStored stored takesMask modified matches setOf matchedOf lowestFrom hitFor verdictOf matchOf bytesStored receivedOf bestOf choiceOf afterFailure sentBy lostBy failedBy frameAt heardOf ended idled errorHeard eventRefusal eventOf bufferCommand commandOf statusOf rxStatusOf powerOn asked turned stepOf chipAfter outcomes table allRight
 cases-hold = tt

@@ -43,20 +43,20 @@ cond-ap f false x y = refl
 
 -- ---- other bytes to send, the rest as it was
 abbrev receivedWith : List ℕ → Received → Received
-receivedWith t h = record { core = withTxBytes (h .core) t; answer = h .answer }
+receivedWith t h = record { core = withTxBytes (h .core) t; answer = h .answer; matched = h .matched }
 
 abbrev happenedWith : List ℕ → Happened → Happened
-happenedWith t h = record { answer = h .answer; core = withTxBytes (h .core) t }
+happenedWith t h = record { answer = h .answer; matched = h .matched; core = withTxBytes (h .core) t }
 
 abbrev pub toldWith : List ℕ → Told → Told
-toldWith t h = record { refusal = h .refusal; answer = h .answer; core = withTxBytes (h .core) t }
+toldWith t h = record { refusal = h .refusal; answer = h .answer; matched = h .matched; core = withTxBytes (h .core) t }
 
 module _ (t : List ℕ) (k : Core) where
   heard-with : (m : Mode) (f : Frame) → heardIn m (withTxBytes k t) f ≡ receivedWith t (heardIn m k f)
   unfolding receivedOf
   heard-with Normal f = cond-ap (receivedWith t) (isBusOff (k .control .counters)) (ignored k) (goodFrame k f)
   heard-with Sleep f =
-      cond-ap (receivedWith t) (hasBit (k .control .flags .caninte) WAKIF) (record { core = withControl k (wokenControl (k .control)); answer = Woke }) (ignored k)
+      cond-ap (receivedWith t) (hasBit (k .control .flags .caninte) WAKIF) (record { core = withControl k (wokenControl (k .control)); answer = Woke; matched = 0 }) (ignored k)
   heard-with Loopback f = refl
   heard-with ListenOnly f = cond-ap (receivedWith t) (isBusOff (k .control .counters)) (ignored k) (receivedOf k f)
   heard-with Configuration f = refl

@@ -53,5 +53,7 @@ pub record CoreFacts : Type 0 where
       → eventOf (acted (Store a v) k) r .refusal ≡ eventOf k r .refusal
   pub store-answer : (k : Core) (r : List ℕ) (b : TxBuffer) (a v : ℕ) → Good k → isFree k b ≡ true → TxByte b a
       → eventOf (acted (Store a v) k) r .answer ≡ eventOf k r .answer
+  pub store-set : (k : Core) (r : List ℕ) (b : TxBuffer) (a v : ℕ) → Good k → isFree k b ≡ true → TxByte b a
+      → eventOf (acted (Store a v) k) r .matched ≡ eventOf k r .matched
   pub store-event : (k : Core) (r : List ℕ) (b : TxBuffer) (a v : ℕ) → Good k → isFree k b ≡ true → TxByte b a
       → eventOf (acted (Store a v) k) r .core ≡ acted (Store a v) (eventOf k r .core)

@@ -38,7 +38,7 @@ use Rattle.receiving.specs.declared.Hit.{Hit}
 use Rattle.receiving.specs.declared.Hit.the-variants.{Filter, Miss}
 use Rattle.receiving.specs.declared.Verdict.{Verdict}
 use Rattle.receiving.specs.declared.Verdict.the-variants.{Unmatched, Stored0, Stored1, RolledOver, Lost0, Lost1}
-use Rattle.receiving.specs.Receiving.{Received, matches, hitFor, isFull, verdictBy, verdictOf, controlAfter, filled, headed, bytesStored, bytesAfter, receivedOf}
+use Rattle.receiving.specs.Receiving.{Received, matches, hitFor, isFull, verdictBy, verdictOf, matchOf, controlAfter, filled, headed, bytesStored, bytesAfter, receivedOf}
 use Rattle.controller.specs.declared.Choice.the-variants.{Send, Nobody}
 use Rattle.controller.specs.declared.End.{End}
 use Rattle.controller.specs.declared.End.the-variants.{Sent, LostArbitration, Failed}
@@ -335,7 +335,7 @@ next p q = record {
 }
 
 received-kept : (k : Core) (f : Frame) → Kept k (receivedOf k f .core)
-unfolding receivedOf
+unfolding receivedOf matchOf
 received-kept k f = record {
   control = verdict-keeps (verdictOf (k .control) (k .config) f) (k .control) (f .remote);
   config = refl;

@@ -48,5 +48,6 @@ facts = record {
   store-free = λ k b a v g free t. ap (λ (j : Core). isFree j b) (acted-put k b a v g free t) ∙ free;
   store-refusal = λ k r b a v g free t. ap (λ (x : Told). x .refusal) (told k r b a v g free t);
   store-answer = λ k r b a v g free t. ap (λ (x : Told). x .answer) (told k r b a v g free t);
+  store-set = λ k r b a v g free t. ap (λ (x : Told). x .matched) (told k r b a v g free t);
   store-event = store-event;
 }

@@ -10,7 +10,7 @@ use Rattle.registers.specs.Errors.{errorFlags, movedTo}
 use Rattle.registers.specs.Modes.{entered, freeToChange, settled}
 use Rattle.registers.specs.Registers.{regionOf, writableOf, powerOnCore, holds, reads}
 use Rattle.stores.specs.Store.{txStored, requestedOf, aborted, canctrlStored, stored}
-use Rattle.receiving.specs.Receiving.{matches, lowestFrom, hitFor, verdictOf, bytesStored, receivedOf}
+use Rattle.receiving.specs.Receiving.{matches, setOf, matchedOf, lowestFrom, hitFor, verdictOf, matchOf, bytesStored, receivedOf}
 use Rattle.controller.specs.Sending.{bestOf, choiceOf}
 use Rattle.controller.specs.Events.{heardOf, idled, errorHeard, eventRefusal, eventOf}
 use Rattle.registers.specs.declared.Flags.{Flags}
@@ -61,13 +61,17 @@ normal = low ∷ byte 0x02 ∷ byte 0x0F ∷ byte 0x00 ∷ high ∷ []
 -- To open this is to open all that a run looks through.
 tidied : List (List ℕ) → List (List ℕ)
 unfolding kindOf frameOf soundOf errorFlags movedTo entered freeToChange settled regionOf writableOf powerOnCore holds reads
-    txStored requestedOf aborted canctrlStored stored matches lowestFrom hitFor verdictOf bytesStored receivedOf bestOf choiceOf
+    txStored requestedOf aborted canctrlStored stored matches setOf matchedOf lowestFrom hitFor verdictOf matchOf bytesStored receivedOf bestOf choiceOf
     heardOf idled errorHeard eventRefusal eventOf bufferCommand commandOf powerOn asked turned stepOf chipAfter outcomes roleOf trace listed events
     others bytes before after placed session tidyFrom tidy records outs
 tidied rs = records (tidy 0 (trace powerOn rs))
 
 abbrev ok : ℕ → Outcome
-ok a = record { refusal = 0; answer = a }
+ok a = record { refusal = 0; answer = a; matched = 0 }
+
+-- a frame that each of the six filters matches, as they do under masks of 0
+abbrev heard : ℕ → Outcome
+heard a = record { refusal = 0; answer = a; matched = 0x3F }
 
 abbrev wrote : List Outcome
 wrote = ok 0 ∷ ok 0 ∷ ok 0 ∷ ok 0 ∷ ok 0 ∷ []
@@ -106,7 +110,7 @@ written = normal ++ (low ∷ byte 0x02 ∷ frame 0xAA ∷ byte 0x2B ∷ byte 0x0
 -- the first goes before select low and the second behind select high
 write-tidied : Tidied written
     (normal ++ (frame 0xAA ∷ low ∷ byte 0x02 ∷ byte 0x2B ∷ byte 0x03 ∷ high ∷ frame 0xBB ∷ []))
-    (wrote ++ (ok 1 ∷ ok 0 ∷ ok 0 ∷ ok 0 ∷ ok 0 ∷ ok 0 ∷ ok 3 ∷ []))
+    (wrote ++ (heard 1 ∷ ok 0 ∷ ok 0 ∷ ok 0 ∷ ok 0 ∷ ok 0 ∷ heard 3 ∷ []))
     (rested (record { canctrl = 0; caninte = 3; canintf = 0x21; eflg = 0x40 }) 0 0 0x60 1 0xAA)
 unfolding tidied
 write-tidied = record { in-order = refl; told-before = refl; told-after = refl; end-before = refl; end-after = refl }
@@ -118,7 +122,7 @@ fetched = normal ++ (frame 0xAA ∷ low ∷ byte 0x92 ∷ byte 0 ∷ frame 0xBB 
 -- select high is the moment, so both go before select low; the first reply is still data byte 0 of the first frame
 fetch-tidied : Tidied fetched
     (normal ++ (frame 0xAA ∷ frame 0xBB ∷ error ∷ low ∷ byte 0x92 ∷ byte 0 ∷ byte 0 ∷ high ∷ []))
-    (wrote ++ (ok 1 ∷ ok 3 ∷ ok 0 ∷ ok 0 ∷ ok 0 ∷ ok 0xAA ∷ ok 0 ∷ ok 0 ∷ []))
+    (wrote ++ (heard 1 ∷ heard 3 ∷ ok 0 ∷ ok 0 ∷ ok 0 ∷ ok 0xAA ∷ ok 0 ∷ ok 0 ∷ []))
     (rested (record { canctrl = 0; caninte = 0; canintf = 0xA0; eflg = 0x40 }) 0 1 0x60 1 0xAA)
 unfolding tidied
 fetch-tidied = record { in-order = refl; told-before = refl; told-after = refl; end-before = refl; end-after = refl }
@@ -130,7 +134,7 @@ cut = normal ++ (low ∷ byte 0x05 ∷ idle ∷ byte 0x2B ∷ frame 0xAA ∷ byt
 -- its moment never comes, so all go before select low
 cut-tidied : Tidied cut
     (normal ++ (idle ∷ frame 0xAA ∷ recovery ∷ low ∷ byte 0x05 ∷ byte 0x2B ∷ byte 0xFF ∷ high ∷ []))
-    (wrote ++ (ok 3 ∷ ok 1 ∷ record { refusal = 5; answer = 0 } ∷ ok 0 ∷ ok 0 ∷ ok 0 ∷ ok 0 ∷ ok 0 ∷ []))
+    (wrote ++ (ok 3 ∷ heard 1 ∷ record { refusal = 5; answer = 0; matched = 0 } ∷ ok 0 ∷ ok 0 ∷ ok 0 ∷ ok 0 ∷ ok 0 ∷ []))
     (rested (record { canctrl = 0; caninte = 0; canintf = 1; eflg = 0 }) 0 0 0x60 1 0xAA)
 unfolding tidied
 cut-tidied = record { in-order = refl; told-before = refl; told-after = refl; end-before = refl; end-after = refl }
@@ -140,7 +144,7 @@ abbrev twice : List (List ℕ)
 twice = normal ++ (low ∷ byte 0x03 ∷ byte 0x60 ∷ byte 0 ∷ remote ∷ byte 0 ∷ high ∷ [])
 
 -- it is not listed, and stays as it is
-twice-kept : Tidied twice twice (wrote ++ (ok 0 ∷ ok 0 ∷ ok 0 ∷ ok 0 ∷ ok 1 ∷ ok 0x24 ∷ ok 0 ∷ []))
+twice-kept : Tidied twice twice (wrote ++ (ok 0 ∷ ok 0 ∷ ok 0 ∷ ok 0 ∷ heard 1 ∷ ok 0x24 ∷ ok 0 ∷ []))
     (rested (record { canctrl = 0; caninte = 0; canintf = 1; eflg = 0 }) 8 0 0x70 0 0)
 unfolding tidied
 twice-kept = record { in-order = refl; told-before = refl; told-after = refl; end-before = refl; end-after = refl }
@@ -152,17 +156,17 @@ early = normal ++ (remote ∷ low ∷ byte 0x03 ∷ byte 0x60 ∷ byte 0 ∷ byt
 abbrev late : List (List ℕ)
 late = normal ++ (low ∷ byte 0x03 ∷ byte 0x60 ∷ byte 0 ∷ byte 0 ∷ high ∷ remote ∷ [])
 
-early-told : outcomes powerOn early ≡ wrote ++ (ok 1 ∷ ok 0 ∷ ok 0 ∷ ok 0 ∷ ok 8 ∷ ok 0x24 ∷ ok 0 ∷ [])
+early-told : outcomes powerOn early ≡ wrote ++ (heard 1 ∷ ok 0 ∷ ok 0 ∷ ok 0 ∷ ok 8 ∷ ok 0x24 ∷ ok 0 ∷ [])
 unfolding tidied
 early-told = refl
 
-late-told : outcomes powerOn late ≡ wrote ++ (ok 0 ∷ ok 0 ∷ ok 0 ∷ ok 0 ∷ ok 0 ∷ ok 0 ∷ ok 1 ∷ [])
+late-told : outcomes powerOn late ≡ wrote ++ (ok 0 ∷ ok 0 ∷ ok 0 ∷ ok 0 ∷ ok 0 ∷ ok 0 ∷ heard 1 ∷ [])
 unfolding tidied
 late-told = refl
 
 -- so neither order keeps each record's own outcome
-not-early : outcomes powerOn early ≢ wrote ++ (ok 1 ∷ ok 0 ∷ ok 0 ∷ ok 0 ∷ ok 0 ∷ ok 0x24 ∷ ok 0 ∷ [])
+not-early : outcomes powerOn early ≢ wrote ++ (heard 1 ∷ ok 0 ∷ ok 0 ∷ ok 0 ∷ ok 0 ∷ ok 0x24 ∷ ok 0 ∷ [])
 not-early e = let z : _≡_ {A = ℕ} 8 0 = ap (λ (os : List Outcome). getD os 9 (ok 0) .answer) (sym early-told ∙ e) in omega arith
 
-not-late : outcomes powerOn late ≢ wrote ++ (ok 0 ∷ ok 0 ∷ ok 0 ∷ ok 0 ∷ ok 0x24 ∷ ok 0 ∷ ok 1 ∷ [])
+not-late : outcomes powerOn late ≢ wrote ++ (ok 0 ∷ ok 0 ∷ ok 0 ∷ ok 0 ∷ ok 0x24 ∷ ok 0 ∷ heard 1 ∷ [])
 not-late e = let z : _≡_ {A = ℕ} 0 0x24 = ap (λ (os : List Outcome). getD os 9 (ok 0) .answer) (sym late-told ∙ e) in omega arith

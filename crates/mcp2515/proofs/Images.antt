@@ -16,7 +16,7 @@ use Rattle.image.proofs.Laws.{slice-above, sets-kept, drop-sets, drop-past}
 use Rattle.spi.specs.Open.{Turned, Selected}
 use Rattle.mcp2515.specs.declared.Chip.{Chip}
 use Rattle.mcp2515.specs.declared.Stepped.{Stepped}
-use Rattle.mcp2515.specs.Step.{powerOn, stepOf, outcome, nextChip}
+use Rattle.mcp2515.specs.Step.{powerOn, stepOf, outcome, askedOutcome, nextChip}
 use Rattle.mcp2515.specs.ChipImage.{chipOf, Packed, Advanced}
 
 -- ---- bytes copied one after the other
@@ -97,11 +97,11 @@ power-on-is-chip = refl
 
 -- ---- a chip put in, stepped in place and taken out
 pub stepped-back : (m n : List ℕ) (c d : Chip) (f : Fields) (r : List ℕ) (o x : Outcome) → Packed m c → recordOf f ≡ r
-    → Answered m o (outcome (chipOf m) (recordOf f)) x → Advanced m n (nextChip (chipOf m) (recordOf f)) → d ≡ chipOf n
-    → record { chip = d; refusal = o .refusal; answer = o .answer } ≡ stepOf c r
+    → Answered m o (askedOutcome true (outcome (chipOf m) (recordOf f))) x → Advanced m n (nextChip (chipOf m) (recordOf f)) → d ≡ chipOf n
+    → record { chip = d; refusal = o .refusal; answer = o .answer; matched = o .matched } ≡ stepOf c r
 stepped-back m n c d f r o x p e a v q =
     let s : Stepped = stepOf (chipOf m) (recordOf f) in
-    ap (λ (k : Chip). record { chip = k; refusal = o .refusal; answer = o .answer }) (q ∙ v .image (p .size) .packed .chip)
-    ∙ ap (λ (y : Outcome). record { chip = s .chip; refusal = y .refusal; answer = y .answer }) (a .image (p .size))
+    ap (λ (k : Chip). record { chip = k; refusal = o .refusal; answer = o .answer; matched = o .matched }) (q ∙ v .image (p .size) .packed .chip)
+    ∙ ap (λ (y : Outcome). record { chip = s .chip; refusal = y .refusal; answer = y .answer; matched = y .matched }) (a .image (p .size))
     ∙ ap (λ (k : Chip). stepOf k (recordOf f)) (p .chip)
     ∙ ap (λ (l : List ℕ). stepOf c l) e

@@ -35,7 +35,7 @@ use Rattle.stores.specs.Store.{storedIn, stored, modified, aborted, canctrlHeld
 use Rattle.receiving.specs.declared.Verdict.{Verdict}
 use Rattle.receiving.specs.declared.Verdict.the-variants.{Unmatched, Stored0, Stored1, RolledOver, Lost0, Lost1}
 use Rattle.receiving.specs.declared.Reception.the-variants.{Woke}
-use Rattle.receiving.specs.Receiving.{Received, verdictOf, controlAfter, receivedOf}
+use Rattle.receiving.specs.Receiving.{Received, verdictOf, matchOf, controlAfter, receivedOf}
 use Rattle.controller.specs.declared.End.{End}
 use Rattle.controller.specs.declared.End.the-variants.{Sent, LostArbitration, Failed}
 use Rattle.controller.specs.declared.Choice.the-variants.{Send, Nobody}
@@ -168,11 +168,11 @@ after-counters Lost0 c remote = refl
 after-counters Lost1 c remote = refl
 
 received-state : (k : Core) (f : Frame) → receivedOf k f .core .control .state ≡ k .control .state
-unfolding receivedOf
+unfolding receivedOf matchOf
 received-state k f = after-state (verdictOf (k .control) (k .config) f) (k .control) (f .remote)
 
 received-sound : (k : Core) (f : Frame) → Sound (k .control) → Sound (receivedOf k f .core .control)
-unfolding receivedOf
+unfolding receivedOf matchOf
 received-sound k f s = rw (received-state k f, after-counters (verdictOf (k .control) (k .config) f) (k .control) (f .remote)) s
 
 heard-sound : (m : Mode) (k : Core) (f : Frame) → k .control .state .mode ≡ m → Sound (k .control) → Sound (heardIn m k f .core .control)
@@ -181,7 +181,7 @@ heard-sound Normal k f e s =
     either (λ (h : Received). Sound (h .core .control)) (isBusOff (k .control .counters)) {x = ignored k} {y = goodFrame k f} s (rw (received-state k f) s)
 heard-sound Sleep k f e s =
     either (λ (h : Received). Sound (h .core .control)) (hasBit (k .control .flags .caninte) WAKIF)
-    {x = record { core = withControl k (wokenControl (k .control)); answer = Woke }} {y = ignored k}
+    {x = record { core = withControl k (wokenControl (k .control)); answer = Woke; matched = 0 }} {y = ignored k}
     (λ h. clash (sym (rw e at (left (sendsIn (k .control .state .mode)) _ (s h))))) s
 heard-sound Loopback k f e s = s
 heard-sound ListenOnly k f e s =

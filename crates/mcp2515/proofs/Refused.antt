@@ -1,4 +1,4 @@
--- A refused record answers 0 and leaves the chip as it was. Assumes nothing.
+-- A refused record answers 0 with an empty set and leaves the chip as it was. Assumes nothing.
 use mathlib.Core.Bool.{Bool, true, false}
 use mathlib.Core.List.{List}
 use mathlib.Core.Path.{_≡_, refl}
@@ -45,22 +45,22 @@ unmoved s r k h = go (soundOf r) refl
     go true e = rw e (unmoved-by (kindOf r) s (byteAt r 1) k (rw e at h))
     go false e = rw e (record { answers-0 = refl; core-kept = refl; select-kept = refl })
 
-event-unmoved : (k : Core) (r : List ℕ) → (eventOf k r .refusal ≡ 0 → ⊥) → (eventOf k r .answer ≡ 0) × (eventOf k r .core ≡ k)
+event-unmoved : (k : Core) (r : List ℕ) → (eventOf k r .refusal ≡ 0 → ⊥) → (eventOf k r .answer ≡ 0) × (eventOf k r .matched ≡ 0) × (eventOf k r .core ≡ k)
 unfolding eventOf
 event-unmoved k r h = go (eqb (eventRefusal (k .control) r) 0) refl
   where
-    go : (b : Bool) → eqb (eventRefusal (k .control) r) 0 ≡ b → (eventOf k r .answer ≡ 0) × (eventOf k r .core ≡ k)
+    go : (b : Bool) → eqb (eventRefusal (k .control) r) 0 ≡ b → (eventOf k r .answer ≡ 0) × (eventOf k r .matched ≡ 0) × (eventOf k r .core ≡ k)
     go true e = absurd ((rw e at h) refl)
-    go false e = rw e (refl, refl)
+    go false e = rw e (refl, refl, refl)
 
-pub refused-kept : (c : Chip) (r : List ℕ) → (stepOf c r .refusal ≡ 0 → ⊥) → (stepOf c r .answer ≡ 0) × (stepOf c r .chip ≡ c)
+pub refused-kept : (c : Chip) (r : List ℕ) → (stepOf c r .refusal ≡ 0 → ⊥) → (stepOf c r .answer ≡ 0) × (stepOf c r .matched ≡ 0) × (stepOf c r .chip ≡ c)
 unfolding stepOf
 refused-kept c r h = go (isEvent (kindOf r)) refl
   where
-    go : (b : Bool) → isEvent (kindOf r) ≡ b → (stepOf c r .answer ≡ 0) × (stepOf c r .chip ≡ c)
+    go : (b : Bool) → isEvent (kindOf r) ≡ b → (stepOf c r .answer ≡ 0) × (stepOf c r .matched ≡ 0) × (stepOf c r .chip ≡ c)
     go true e =
         let u = event-unmoved (c .core) r (rw e at h) in
-        rw e (u .0, λ i. record { core = u .1 i; select = c .select })
+        rw e (u .0, u .1, λ i. record { core = u .2 i; select = c .select })
     go false e =
         let u = unmoved (c .select) r (c .core) (rw e at h) in
-        rw e (u .answers-0, λ i. record { core = u .core-kept i; select = u .select-kept i })
+        rw e (u .answers-0, refl, λ i. record { core = u .core-kept i; select = u .select-kept i })

@@ -27,7 +27,7 @@ use Rattle.mcp2515.specs.declared.Chip.{Chip}
 use Rattle.spi.specs.Instructions.{bufferCommand, commandOf, firstAct, opened, rising, exchangeAct, exchangeNext, highAct, replyTo, acted, refusalOf}
 use Rattle.mcp2515.specs.declared.Stepped.{Stepped}
 use Rattle.records.specs.declared.Outcome.{Outcome}
-use Rattle.mcp2515.specs.Step.{powerOn, askedBy, asked, turnedBy, turned, spiStep, eventStep, stepOf, nextChip, outcome}
+use Rattle.mcp2515.specs.Step.{powerOn, askedBy, asked, turnedBy, turned, spiStep, eventStep, stepOf, nextChip, outcomeIn, outcome}
 use Rattle.mcp2515.specs.Moments.{Role, event, low, exchange, high, other, acceptedRole, roleOf, bytesFrom, most, momentOf, isFree, allowed, Demand3For}
 use Rattle.mcp2515.proofs.CoreFacts.{Good, rxBase, txBase, RxByte, TxByte, CoreFacts}
 use Rattle.spi.proofs.Turns.{exchange-accepted, high-told}
@@ -254,9 +254,6 @@ event-step : (c : Chip) (e : List ℕ) → Event e → stepOf c e ≡ eventStep 
 unfolding stepOf
 event-step c e v = rw v
 
-abbrev outcomeIn : Stepped → Outcome
-outcomeIn s = record { refusal = s .refusal; answer = s .answer }
-
 spi-next : (c : Chip) (r : List ℕ) → isEvent (kindOf r) ≡ false → nextChip c r ≡ spiStep c r .chip
 spi-next c r e = ap (λ (s : Stepped). s .chip) (spi-step c r e)
 
@@ -332,7 +329,7 @@ other-step k i r h = go (kindOf r) refl (soundOf r) refl
     go Unknown e false s = refused (rw e) 2 (rw s) (rw s)
 
 module _ (F : CoreFacts) where
-  open CoreFacts F using (good-power, good-acted, good-event, full-event, free-event, fetch-event, store-free, store-refusal, store-answer, store-event)
+  open CoreFacts F using (good-power, good-acted, good-event, full-event, free-event, fetch-event, store-free, store-refusal, store-answer, store-set, store-event)
 
   calm-happens : (k : Core) (e : List ℕ) (a : Act) → CalmAct k a → CalmAct (eventOf k e .core) a
   calm-happens k e Rest c = tt
@@ -350,12 +347,13 @@ module _ (F : CoreFacts) where
     same-reply : replyTo a (eventOf k e .core) ≡ replyTo a k
     same-refusal : eventOf (acted a k) e .refusal ≡ eventOf k e .refusal
     same-answer : eventOf (acted a k) e .answer ≡ eventOf k e .answer
+    same-set : eventOf (acted a k) e .matched ≡ eventOf k e .matched
     same-core : eventOf (acted a k) e .core ≡ acted a (eventOf k e .core)
 
   -- An act that leaves the core as it is.
   idle-swap : (k : Core) (e : List ℕ) (a : Act) → acted a k ≡ k → acted a (eventOf k e .core) ≡ eventOf k e .core
       → replyTo a (eventOf k e .core) ≡ replyTo a k → ActSwap k e a
-  idle-swap k e a p q s = record { same-reply = s; same-refusal = rw p; same-answer = rw p; same-core = rw (p, q) }
+  idle-swap k e a p q s = record { same-reply = s; same-refusal = rw p; same-answer = rw p; same-set = rw p; same-core = rw (p, q) }
 
   act-swap : (k : Core) (e : List ℕ) (a : Act) → Good k → CalmAct k a → ActSwap k e a
   act-swap k e Rest g c = idle-swap k e Rest g (good-event k e g) refl
@@ -365,6 +363,7 @@ module _ (F : CoreFacts) where
     same-reply = refl;
     same-refusal = store-refusal k e (c .0) a b g (c .2) (c .1);
     same-answer = store-answer k e (c .0) a b g (c .2) (c .1);
+    same-set = store-set k e (c .0) a b g (c .2) (c .1);
     same-core = store-event k e (c .0) a b g (c .2) (c .1);
   }
   act-swap k e (Modify a m b) g c = absurd c
@@ -379,9 +378,9 @@ module _ (F : CoreFacts) where
       let w = act-swap (c .core) e (asked (c .select) r) g (q .calm) in
       record {
         first = ap (λ (d : Chip). outcome d r) (event-next c e v) ∙ spi-out (eventStep c e .chip) r (q .spi)
-            ∙ (λ t. record { refusal = refusalOf (asked (c .select) r); answer = w .same-reply t }) ∙ sym (spi-out c r (q .spi));
+            ∙ (λ t. record { refusal = refusalOf (asked (c .select) r); answer = w .same-reply t; matched = 0 }) ∙ sym (spi-out c r (q .spi));
         second = ap (λ (d : Chip). outcome d e) (spi-next c r (q .spi)) ∙ event-out (spiStep c r .chip) e v
-            ∙ (λ t. record { refusal = w .same-refusal t; answer = w .same-answer t }) ∙ sym (event-out c e v);
+            ∙ (λ t. record { refusal = w .same-refusal t; answer = w .same-answer t; matched = w .same-set t }) ∙ sym (event-out c e v);
         both = ap (λ (d : Chip). nextChip d e) (spi-next c r (q .spi)) ∙ event-next (spiStep c r .chip) e v
             ∙ (λ t. record { core = w .same-core t; select = turned (c .select) r })
             ∙ sym (ap (λ (d : Chip). nextChip d r) (event-next c e v) ∙ spi-next (eventStep c e .chip) r (q .spi));

@@ -22,7 +22,7 @@ use Rattle.spi.specs.Open.{selectOf, Turned}
 use Rattle.spi.proofs.Turns.{became-lined, turned-by}
 use Rattle.mcp2515.specs.declared.Chip.{Chip}
 use Rattle.mcp2515.specs.declared.Stepped.{Stepped}
-use Rattle.mcp2515.specs.Step.{askedBy, asked, turnedBy, turned, spiStep, eventStep, stepOf, outcome, nextChip}
+use Rattle.mcp2515.specs.Step.{askedBy, asked, turnedBy, turned, spiStep, eventStep, stepOf, outcomeIn, outcome, askedOutcome, nextChip}
 use Rattle.mcp2515.specs.ChipImage.{Moved}
 use Rattle.mcp2515.proofs.Plain.{asked-plain, turned-plain}
 
@@ -77,6 +77,7 @@ stepBy g c b =
     record {
       refusal = refusalOf (askedBy g (c .select) b);
       answer = replyTo (askedBy g (c .select) b) (c .core);
+      matched = 0;
       chip = record { core = acted (askedBy g (c .select) b) (c .core); select = turnedBy g (c .select) b };
     }
 
@@ -91,7 +92,7 @@ turned-here : (s : Select) (f : Fields) → turned s (recordOf f) ≡ cond (soun
 unfolding kindOf recordOf
 turned-here s f = sym (turned-plain s (recordOf f))
 
-pub unsound-step : (c : Chip) (f : Fields) → f .kind < 3 → Sound f false → stepOf c (recordOf f) ≡ record { refusal = refusedField; answer = 0; chip = c }
+pub unsound-step : (c : Chip) (f : Fields) → f .kind < 3 → Sound f false → stepOf c (recordOf f) ≡ record { refusal = refusedField; answer = 0; matched = 0; chip = c }
 unsound-step c f h e = spi-side c f h ∙ rw (asked-here (c .select) f, turned-here (c .select) f, e)
 
 sound-step : (c : Chip) (f : Fields) → f .kind < 3 → Sound f true → stepOf c (recordOf f) ≡ stepBy (kindBy (f .kind)) c (f .field)
@@ -131,8 +132,22 @@ provided true e = refl
 provided false e = sym e
 
 -- ---- what a step is known to be says what it tells and where it leads
-pub told-as : (c : Chip) (r : List ℕ) {s : Stepped} {o : Outcome} → stepOf c r ≡ s → o ≡ record { refusal = s .refusal; answer = s .answer } → o ≡ outcome c r
-told-as c r e p = p ∙ ap (λ (x : Stepped). record { refusal = x .refusal; answer = x .answer }) (sym e)
+pub told-as : (c : Chip) (r : List ℕ) {s : Stepped} {o : Outcome} → stepOf c r ≡ s → o ≡ outcomeIn s → o ≡ outcome c r
+told-as c r e p = p ∙ ap outcomeIn (sym e)
+
+-- .. with the set where it is asked for
+pub told-asked : (wanted : Bool) (c : Chip) (r : List ℕ) {s : Stepped} {o : Outcome} → stepOf c r ≡ s → o ≡ askedOutcome wanted (outcomeIn s)
+    → o ≡ askedOutcome wanted (outcome c r)
+told-asked wanted c r e p = p ∙ ap (λ (x : Stepped). askedOutcome wanted (outcomeIn x)) (sym e)
+
+-- a record of kind 0 to 2 has an empty set, asked for or not
+pub spi-asked : (wanted : Bool) (c : Chip) (f : Fields) {o : Outcome} → f .kind < 3 → o ≡ outcome c (recordOf f) → o ≡ askedOutcome wanted (outcome c (recordOf f))
+spi-asked true c f h p = p
+spi-asked false c f h p = p ∙ (λ i. record {
+  refusal = stepOf c (recordOf f) .refusal;
+  answer = stepOf c (recordOf f) .answer;
+  matched = spi-side c f h i .matched;
+})
 
 pub moved-as : {m n : List ℕ} (c : Chip) (r : List ℕ) {s : Stepped} → stepOf c r ≡ s → Moved m n (s .chip) → Moved m n (nextChip c r)
 moved-as {m} {n} c r e w = subst (λ (x : Stepped). Moved m n (x .chip)) (sym e) w

@@ -78,7 +78,7 @@ lastOf o [] = o
 lastOf o (x ∷ xs) = lastOf x xs
 
 abbrev pub noOutcome : Outcome
-noOutcome = record { refusal = 0; answer = 0 }
+noOutcome = record { refusal = 0; answer = 0; matched = 0 }
 
 abbrev pub answerTo : Question → List (List ℕ) → ℕ
 answerTo lastAnswer rs = lastOf noOutcome (outcomes powerOn rs) .answer

@@ -31,7 +31,7 @@ pub record Advanced (m n : List ℕ) (c : Chip) : Type 0 where
 
 -- what an act of the SPI side tells
 abbrev pub actOutcome : Act → Core → Outcome
-actOutcome x k = record { refusal = refusalOf x; answer = replyTo x k }
+actOutcome x k = record { refusal = refusalOf x; answer = replyTo x k; matched = 0 }
 
 abbrev pub told : ℕ → ℕ → Outcome
-told n a = record { refusal = n; answer = a }
+told n a = record { refusal = n; answer = a; matched = 0 }

@@ -68,7 +68,7 @@ isHigh exchange = false
 isHigh high = true
 isHigh other = false
 
--- A record of a run, with the chip that it met and its refusal and answer there.
+-- A record of a run, with the chip that it met and its refusal, answer and set there.
 pub record Entry : Type 0 where
   pub met : Chip
   pub rec : List ℕ
@@ -192,8 +192,8 @@ outs [] = []
 outs (x ∷ xs) = x .out ∷ outs xs
 
 -- ---- demand 3
--- Run a list from power-on and tidy it. Run by the rules from power-on again, the tidied records get the refusals and answers that
--- they had, each its own, and the end state is the same.
+-- Run a list from power-on and tidy it. Run by the rules from power-on again, the tidied records get the refusals, answers and sets
+-- that they had, each its own, and the end state is the same.
 abbrev pub Demand3For : ℕ → Type 0
 Demand3For extra =
     (rs : List (List ℕ))

@@ -1,12 +1,13 @@
 -- The step: any chip and any record of 16 bytes; and the run of a list of records.
 use Prim.Native.Nat.{ℕ}
-use mathlib.Core.Bool.{cond}
+use mathlib.Core.Bool.{Bool, cond}
 use mathlib.Core.List.{List, [], _∷_}
 use Rattle.records.specs.declared.Kind.{Kind}
 use Rattle.records.specs.declared.Kind.the-variants.{SelectLow, Exchange, SelectHigh, FrameHeard, BusIdle, FrameEnds, ReceiveError, Recovery, Unknown}
 use Rattle.records.specs.declared.Outcome.{Outcome}
 use Rattle.records.specs.Records.{refusedSelect, refusedField, byteAt, kindOf, isEvent, soundOf}
 use Rattle.registers.specs.Registers.{powerOnCore}
+use Rattle.receiving.specs.Receiving.{askedSet}
 use Rattle.controller.specs.Events.{eventOf}
 use Rattle.spi.specs.declared.Instruction.the-variants.{First}
 use Rattle.spi.specs.declared.Select.{Select}
@@ -62,6 +63,7 @@ spiStep c r =
     record {
       refusal = refusalOf (asked (c .select) r);
       answer = replyTo (asked (c .select) r) (c .core);
+      matched = 0;
       chip = record { core = acted (asked (c .select) r) (c .core); select = turned (c .select) r };
     }
 
@@ -71,6 +73,7 @@ eventStep c r =
     record {
       refusal = eventOf (c .core) r .refusal;
       answer = eventOf (c .core) r .answer;
+      matched = eventOf (c .core) r .matched;
       chip = record { core = eventOf (c .core) r .core; select = c .select };
     }
 
@@ -81,8 +84,16 @@ stepOf c r = cond (isEvent (kindOf r)) (eventStep c r) (spiStep c r)
 abbrev pub nextChip : Chip → List ℕ → Chip
 nextChip c r = stepOf c r .chip
 
+-- what a step tells beside the chip
+abbrev pub outcomeIn : Stepped → Outcome
+outcomeIn s = record { refusal = s .refusal; answer = s .answer; matched = s .matched }
+
 abbrev pub outcome : Chip → List ℕ → Outcome
-outcome c r = record { refusal = stepOf c r .refusal; answer = stepOf c r .answer }
+outcome c r = outcomeIn (stepOf c r)
+
+-- its set where that is asked for, else 0
+abbrev pub askedOutcome : Bool → Outcome → Outcome
+askedOutcome wanted o = record { refusal = o .refusal; answer = o .answer; matched = askedSet wanted (o .matched) }
 
 unfoldable pub chipAfter : Chip → List (List ℕ) → Chip
 chipAfter c [] = c

@@ -16,9 +16,11 @@ pub struct Chip {
     pub select: spi::Select,
 }
 
-// A step by value: the refusal (0 for none), the answer, and the chip after it.
+// A step by value: the refusal (0 for none), the answer, the filters that match the record's frame (bit n for filter n), and the chip
+// after it.
 pub struct Stepped {
     pub chip: Chip,
     pub refusal: u8,
     pub answer: u8,
+    pub matched: u8,
 }

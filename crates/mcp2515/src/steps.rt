@@ -14,6 +14,7 @@ ghost use Rattle.mcp2515.specs.Step.{
   turnedBy,
   stepOf,
   outcome,
+  askedOutcome,
   nextChip,
 };
 ghost use Rattle.mcp2515.specs.ChipImage.{chipOf, Moved, Advanced, actOutcome, told};
@@ -68,7 +69,11 @@ pub fn int_is_low(chip: Chip) -> bool
 fn refuse(refusal: u8) -> Outcome
     ensures { λ r. ⌜ r ≡ told refusal 0 ⌝ }
 {
-    Outcome { refusal, answer: 0 }
+    Outcome {
+        refusal,
+        answer: 0,
+        matched: 0,
+    }
 }
 
 fn accept(answer: u8) -> Outcome
@@ -77,6 +82,7 @@ fn accept(answer: u8) -> Outcome
     Outcome {
         refusal: ACCEPTED,
         answer,
+        matched: 0,
     }
 }
 
@@ -138,10 +144,10 @@ fn step_spi(image: &mut [u8], fields: Fields) -> Outcome
     step_high(image)
 }
 
-// One record, where the chip lies: kinds 0 to 2 are of the SPI side, a bus event never looks at it. Bytes that are no image are refused as a
-// field.
-pub fn step_in_place(image: &mut [u8], fields: Fields) -> Outcome
-    ensures { λ r. ⌜ Answered (now (image .entry)) r (outcome (chipOf (now (image .entry))) (recordOf fields)) notAnImage ⌝ }
+// One record, where the chip lies: kinds 0 to 2 are of the SPI side, a bus event never looks at it. The set is worked out where it is asked
+// for. Bytes that are no image are refused as a field.
+pub fn step_in_place(image: &mut [u8], fields: Fields, asked: bool) -> Outcome
+    ensures { λ r. ⌜ Answered (now (image .entry)) r (askedOutcome asked (outcome (chipOf (now (image .entry))) (recordOf fields))) notAnImage ⌝ }
     ensures { λ _. ⌜ Advanced (now (image .entry)) (now (image .exit)) (nextChip (chipOf (now (image .entry))) (recordOf fields)) ⌝ }
     ensures { λ r. ⌜ RefusedKept (r .refusal) (now (image .entry)) (now (image .exit)) ⌝ }
 {
@@ -149,24 +155,26 @@ pub fn step_in_place(image: &mut [u8], fields: Fields) -> Outcome
         return Outcome {
             refusal: REFUSED_FIELD,
             answer: 0,
+            matched: 0,
         };
     }
     if fields.kind < 3 {
         return step_spi(image, fields);
     }
-    controller::event(image, fields)
+    controller::event(image, fields, asked)
 }
 
 fn advance(chip: Chip, record: [u8; 16]) -> Stepped
     ensures { λ s. ⌜ s ≡ stepOf chip «record» ⌝ }
 {
     let mut image = pack(chip);
-    let outcome = step_in_place(&mut image, records::fields_of(record));
+    let outcome = step_in_place(&mut image, records::fields_of(record), true);
     let next = unpack(image);
     Stepped {
         chip: next,
         refusal: outcome.refusal,
         answer: outcome.answer,
+        matched: outcome.matched,
     }
 }
 

@@ -45,7 +45,7 @@ module _ (m : List ℕ) (q : Key) where
   word-take at h =
       rw (getD-take 48 m (at + SIDH) 0 (omega arith), getD-take 48 m (at + SIDL) 0 (omega arith), getD-take 48 m (at + EID8) 0 (omega arith), getD-take 48 m (at + EID0) 0 (omega arith))
 
-  matches-take : (n : ℕ) → n < 6 → wordMatches (take 48 m) q n ≡ wordMatches m q n
+  pub matches-take : (n : ℕ) → n < 6 → wordMatches (take 48 m) q n ≡ wordMatches m q n
   unfolding wordMatches
   matches-take n h =
       ap₂ (λ (mask filter : ℕ). agreeUnder (counted mask (q .reach)) filter (q .word))
@@ -56,8 +56,8 @@ module _ (m : List ℕ) (q : Key) where
   lowest-take i zero h = refl
   lowest-take i (suc n) h = rw (matches-take i (omega arith), lowest-take (suc i) n (omega arith))
 
--- ---- two tests that agree find the same filter
-pub lowest-same : {f g : ℕ → Bool} → ((n : ℕ) → f n ≡ g n) → (i n : ℕ) → lowestFrom f i n ≡ lowestFrom g i n
+-- ---- two tests that agree on the filters asked find the same one
+pub lowest-below : {f g : ℕ → Bool} (i n : ℕ) → ((k : ℕ) → k < i + n → f k ≡ g k) → lowestFrom f i n ≡ lowestFrom g i n
 unfolding lowestFrom
-lowest-same e i zero = refl
-lowest-same e i (suc n) = rw (e i, lowest-same e (suc i) n)
+lowest-below i zero e = refl
+lowest-below i (suc n) e = rw (e i (omega arith), lowest-below (suc i) n (λ k h. e k (omega arith)))

@@ -20,7 +20,7 @@ use Rattle.registers.specs.declared.RxBuffer.the-variants.{Rxb0, Rxb1}
 use Rattle.receiving.specs.declared.Hit.the-variants.{Filter}
 use Rattle.receiving.specs.Receiving.{SIDH, SIDL, EID8, EID0, identifierPlace, identifierWidth, filterAt, maskAt, bitAt, agreesAt, carriedBy, matches, takesAny, hitFor}
 use Rattle.receiving.specs.Words.{fourAt, keyBytes, reachBytes, keyOf, alwaysBytes, counted, wordMatches, MatchesBitwise}
-use Rattle.receiving.proofs.Look.{lowest-same}
+use Rattle.receiving.proofs.Look.{lowest-below}
 use Rattle.receiving.proofs.Places.{top-kept, remote-lt, sidl, extendedBytes, extended-kept}
 
 is-true : (b : Bool) → T b → b ≡ true
@@ -248,5 +248,5 @@ matches-bitwise m f n =
 -- ---- so the look finds the rule's filter
 pub hit-same : (c : Control) (m : List ℕ) (f : Frame) (b : RxBuffer) → hitFor c (wordMatches m (keyOf f)) b ≡ hitFor c (matches m f) b
 unfolding hitFor
-hit-same c m f Rxb0 = ap (cond (takesAny (rxControl (c .rx) Rxb0)) (Filter 0)) (lowest-same (matches-bitwise m f) 0 2)
-hit-same c m f Rxb1 = ap (cond (takesAny (rxControl (c .rx) Rxb1)) (Filter 0)) (lowest-same (matches-bitwise m f) 2 4)
+hit-same c m f Rxb0 = ap (cond (takesAny (rxControl (c .rx) Rxb0)) (Filter 0)) (lowest-below 0 2 (λ k h. matches-bitwise m f k))
+hit-same c m f Rxb1 = ap (cond (takesAny (rxControl (c .rx) Rxb1)) (Filter 0)) (lowest-below 2 4 (λ k h. matches-bitwise m f k))

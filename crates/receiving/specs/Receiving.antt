@@ -1,10 +1,10 @@
 -- Receiving: a frame's register bytes, which filter matches, which buffer takes the frame, what is stored and what is lost.
 use Prim.Native.Nat.{ℕ, zero, suc, _+_, _-_, _*_, _/_, _%_, _<_}
-use mathlib.Core.Bool.{Bool, cond, not, _&&_, _||_}
+use mathlib.Core.Bool.{Bool, true, false, cond, not, _&&_, _||_}
 use mathlib.Core.List.{List, [], _∷_}
 use mathlib.Core.Path.{_≡_}
 use lib.Dec.{eqb, ltb}
-use lib.Bits.{bitOr}
+use lib.Bits.{bitAnd, bitOr}
 use lib.ListN.{getD, set}
 use Rattle.bits.specs.Bit.{hasBit, setBit, merged, sameAs, agrees, forBelow}
 use Rattle.records.specs.declared.Frame.{Frame}
@@ -21,6 +21,7 @@ use Rattle.receiving.specs.declared.Hit.{Hit}
 use Rattle.receiving.specs.declared.Hit.the-variants.{Filter, Miss}
 use Rattle.receiving.specs.declared.Verdict.{Verdict}
 use Rattle.receiving.specs.declared.Verdict.the-variants.{Unmatched, Stored0, Stored1, RolledOver, Lost0, Lost1}
+use Rattle.receiving.specs.declared.MatchAnswer.{MatchAnswer}
 use Rattle.receiving.specs.declared.Reception.{Reception}
 use Rattle.receiving.specs.declared.Reception.the-variants.{NoMatch, InRxb0, InRxb1, Lost, NotListening, Woke}
 
@@ -128,6 +129,25 @@ sameData config f n =
 unfoldable pub matches : List ℕ → Frame → ℕ → Bool
 matches config f n = sameFormat config f n && sameIdentifier config f n && sameData config f n
 
+-- ---- every filter that matches
+-- there are six
+abbrev pub filters : ℕ
+filters = 6
+
+-- a set of filters is a number, bit n for filter n: those of the first n that pass a test
+unfoldable pub setOf : (ℕ → Bool) → ℕ → ℕ
+setOf matching zero = 0
+setOf matching (suc n) = cond (matching n) (setBit (setOf matching n) n) (setOf matching n)
+
+-- all six are asked, each under its own mask, whatever RXM says and whichever buffer takes the frame
+unfoldable pub matchedOf : List ℕ → Frame → ℕ
+matchedOf config f = setOf (matches config f) filters
+
+-- a set where it is asked for, else 0
+abbrev pub askedSet : Bool → ℕ → ℕ
+askedSet asked s = cond asked s 0
+
+-- ---- the hit
 -- the lowest-numbered of n filters from i on that matches, by a test for each
 unfoldable pub lowestFrom : (ℕ → Bool) → ℕ → ℕ → Hit
 lowestFrom matching i zero = Miss
@@ -167,6 +187,13 @@ verdictBy c Miss other = verdict1 c other
 
 unfoldable pub verdictOf : Control → List ℕ → Frame → Verdict
 verdictOf c config f = verdictBy c (hitFor c (matches config f) Rxb0) (hitFor c (matches config f) Rxb1)
+
+-- the match answer: the verdict, which has the hit, and the set
+unfoldable pub matchOf : Control → List ℕ → Frame → MatchAnswer
+matchOf c config f = record { verdict = verdictOf c config f; matched = matchedOf config f }
+
+abbrev pub askedMatch : Bool → MatchAnswer → MatchAnswer
+askedMatch asked m = record { verdict = m .verdict; matched = askedSet asked (m .matched) }
 
 abbrev pub receptionOf : Verdict → Reception
 receptionOf Unmatched = NoMatch
@@ -240,17 +267,54 @@ bytesAfter (RolledOver h) rx f = bytesStored rx 16 f
 bytesAfter Lost0 rx f = rx
 bytesAfter Lost1 rx f = rx
 
--- ---- the receive rules whole: the core after them, and the answer
+-- ---- the receive rules whole: the core after them, the answer and the set
 pub record Received : Type 0 where
   pub core : Core
   pub answer : Reception
+  pub matched : ℕ
 
-abbrev pub receivedBy : Verdict → Core → Frame → Received
-receivedBy v k f =
-    record {
-      core = record { control = controlAfter v (k .control) (f .remote); config = k .config; tx = k .tx; rx = bytesAfter v (k .rx) f };
-      answer = receptionOf v;
-    }
+abbrev pub coreAfter : Verdict → Core → Frame → Core
+coreAfter v k f =
+    record { control = controlAfter v (k .control) (f .remote); config = k .config; tx = k .tx; rx = bytesAfter v (k .rx) f }
+
+abbrev pub receivedBy : MatchAnswer → Core → Frame → Received
+receivedBy m k f = record { core = coreAfter (m .verdict) k f; answer = receptionOf (m .verdict); matched = m .matched }
 
 unfoldable pub receivedOf : Core → Frame → Received
-receivedOf k f = receivedBy (verdictOf (k .control) (k .config) f) k f
+receivedOf k f = receivedBy (matchOf (k .control) (k .config) f) k f
+
+-- ---- the answer by its number, and the set
+pub record Reply : Type 0 where
+  pub answer : ℕ
+  pub matched : ℕ
+
+-- the set is told where it is asked for
+abbrev pub replyTo : Bool → Received → Reply
+replyTo asked x = record { answer = receptionNumber (x .answer); matched = askedSet asked (x .matched) }
+
+-- both as one number, as the code has them: the set in the high byte
+abbrev pub replyIn : ℕ → Reply
+replyIn x = record { answer = x % 256; matched = x / 256 }
+
+-- ---- laws of the set, proved in proofs/Sets
+-- filter n is in the set just if it matches
+abbrev pub SetBits : Type 0
+SetBits = (matching : ℕ → Bool) (n : ℕ) → n < filters → hasBit (setOf matching filters) n ≡ matching n
+
+-- a buffer's share: the filters that it asks
+abbrev pub shareOf : RxBuffer → ℕ → ℕ
+shareOf Rxb0 s = bitAnd s 0x03
+shareOf Rxb1 s = bitAnd s 0x3C
+
+abbrev pub isMiss : Hit → Bool
+isMiss (Filter h) = false
+isMiss Miss = true
+
+-- unless RXM is 11, the hit that a buffer gives when asked is the lowest bit of its share, and it gives none just if the share is empty
+pub record HitInSet (c : Control) (config : List ℕ) (f : Frame) (b : RxBuffer) : Type 0 where
+  pub lowest : hitFor c (matches config f) b ≡ lowestFrom (hasBit (shareOf b (matchedOf config f))) 0 filters
+  pub none : isMiss (hitFor c (matches config f) b) ≡ eqb (shareOf b (matchedOf config f)) 0
+
+abbrev pub HitIsLowest : Type 0
+HitIsLowest =
+    (c : Control) (config : List ℕ) (f : Frame) (b : RxBuffer) → takesAny (rxControl (c .rx) b) ≡ false → HitInSet c config f b

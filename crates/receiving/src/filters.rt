@@ -9,6 +9,9 @@ ghost use Rattle.image.specs.Image.{imageSize, controlOf};
 ghost use Rattle.receiving.specs.Words.{wordAt, wordMatches};
 ghost use Rattle.receiving.specs.Receiving.{
   maskAt,
+  filters,
+  setOf,
+  askedSet,
   lowestFrom,
   takesAny,
   lowestFor,
@@ -19,6 +22,9 @@ use crate::Key;
 use image::RXB0CTRL;
 use image::RXB1CTRL;
 use registers::RxBuffer;
+
+// Filters 0 to 5.
+const FILTERS: u8 = 6;
 
 // EXIDE, in the second byte of a filter's word: no mask takes it out.
 const ALWAYS: u32 = 0x0800;
@@ -50,6 +56,28 @@ fn is_match(image: &[u8], key: Key, filter: u8) -> bool
     let at = (filter / 3 * 16 + filter % 3 * 4) as usize;
     let counted = (word_at(image, mask_at(filter)) & key.reach) | ALWAYS;
     word_at(image, at) & counted == key.word & counted
+}
+
+// Every filter that matches, bit n for filter n.
+fn matched_by(image: &[u8], key: Key) -> u8
+    requires { ⌜ length (now image) ≡ imageSize ⌝ }
+    ensures { λ r. ⌜ r ≡ setOf (wordMatches (now (image .entry)) key) filters ⌝ }
+{
+    let mut set: u8 = 0;
+    let mut filter: u8 = 0;
+    while filter < FILTERS {
+        set = bits::choose(is_match(image, key, filter), bits::set(set, filter), set);
+        filter += 1;
+    }
+    set
+}
+
+// The set where it is asked for; else it is not worked out.
+pub fn set_if(asked: bool, image: &[u8], key: Key) -> u8
+    requires { ⌜ length (now image) ≡ imageSize ⌝ }
+    ensures { λ r. ⌜ r ≡ askedSet asked (setOf (wordMatches (take 48 (now (image .entry))) key) filters) ⌝ }
+{
+    if asked { matched_by(image, key) } else { 0 }
 }
 
 // The look over filters first to end - 1: the first that matches is the answer.

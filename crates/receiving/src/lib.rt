@@ -28,6 +28,12 @@ pub enum Verdict {
     Lost1,
 }
 
+// The match answer: what becomes of the frame, with the hit, and the filters that match, bit n for filter n.
+pub struct MatchAnswer {
+    pub verdict: Verdict,
+    pub matched: u8,
+}
+
 // The answer to a frame.
 pub enum Reception {
     NoMatch,

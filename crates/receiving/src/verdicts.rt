@@ -12,18 +12,23 @@ ghost use Rattle.receiving.specs.Receiving.{
   verdict0,
   verdict1,
   verdictBy,
-  verdictOf,
+  askedMatch,
+  matchOf,
   receptionOf,
   hitBits,
   lostAt,
   controlAfter,
+  replyIn,
+  replyTo,
   receivedOf,
 };
 use crate::Hit;
 use crate::Key;
+use crate::MatchAnswer;
 use crate::Reception;
 use crate::Verdict;
 use crate::filters::hit_for;
+use crate::filters::set_if;
 use crate::frames::key_of;
 use crate::frames::put_by;
 use image::CANINTF;
@@ -122,12 +127,15 @@ fn judge(image: &[u8], key: Key, hit: Hit) -> Verdict
     }
 }
 
-fn verdict_of(image: &[u8], frame: Frame) -> Verdict
+// The match answer: what becomes of the frame, and its set where that is asked for.
+fn match_of(image: &[u8], frame: Frame, asked: bool) -> MatchAnswer
     requires { ⌜ length (now image) ≡ imageSize ⌝ }
-    ensures { λ r. ⌜ r ≡ verdictOf (controlOf (now (image .entry))) (take 48 (now (image .entry))) frame ⌝ }
+    ensures { λ r. ⌜ r ≡ askedMatch asked (matchOf (controlOf (now (image .entry))) (take 48 (now (image .entry))) frame) ⌝ }
 {
     let key = key_of(frame);
-    judge(image, key, hit_for(image, key, RxBuffer::Rxb0))
+    let matched = set_if(asked, image, key);
+    let verdict = judge(image, key, hit_for(image, key, RxBuffer::Rxb0));
+    MatchAnswer { verdict, matched }
 }
 
 fn reception_of(verdict: Verdict) -> Reception
@@ -204,16 +212,17 @@ fn mark(image: &mut [u8], verdict: Verdict, remote: bool)
     }
 }
 
-// The receive rules whole.
-pub fn receive(image: &mut [u8], frame: Frame) -> Reception
-    ensures { λ r. ⌜ Answered (now (image .entry)) r (receivedOf (coreOf (now (image .entry))) frame .answer) Reception.NotListening ⌝ }
+// The receive rules whole. The answer's number and the set, where it is asked for, come back as one number: the set in the high byte.
+pub fn receive(image: &mut [u8], frame: Frame, asked: bool) -> u16
+    ensures { λ r. ⌜ Answered (now (image .entry)) (replyIn r) (replyTo asked (receivedOf (coreOf (now (image .entry))) frame)) (replyIn 0) ⌝ }
     ensures { λ _. ⌜ Acted (now (image .entry)) (now (image .exit)) (receivedOf (coreOf (now (image .entry))) frame .core) ⌝ }
 {
     if image.len() != SIZE {
-        return Reception::NotListening;
+        return 0;
     }
-    let verdict = verdict_of(image, frame);
+    let found = match_of(image, frame, asked);
+    let verdict = found.verdict;
     mark(image, verdict, frame.remote);
     put_by(image, verdict, frame);
-    reception_of(verdict)
+    records::paired(reception_number(reception_of(verdict)), found.matched)
 }

@@ -48,10 +48,11 @@ pub struct Fields {
     pub data: u64,
 }
 
-// What a step tells of a record: its refusal, 0 for none, and its answer.
+// What a step tells of a record: its refusal, 0 for none, its answer, and the filters that match its frame, bit n for filter n.
 pub struct Outcome {
     pub refusal: u8,
     pub answer: u8,
+    pub matched: u8,
 }
 
 pub const ACCEPTED: u8 = 0;
@@ -83,6 +84,13 @@ pub fn kind_by(number: u8) -> Kind
         7 => Kind::Recovery,
         _ => Kind::Unknown,
     }
+}
+
+// Two bytes as one number, low byte first.
+pub fn paired(a: u8, b: u8) -> u16
+    ensures { λ r. ⌜ (r % 256 ≡ a) × (r / 256 ≡ b) ⌝ }
+{
+    a as u16 + b as u16 * 256
 }
 
 // Four bytes as one number, high byte first.

@@ -7,15 +7,17 @@ use native.Mathlib.Omega.{arith}
 use borrow.Author.Tests.{eqb-true, ltb-false}
 use lib.Dec.{eqb, ltb}
 use lib.IntN.{pos, negℤ}
-use lib.ListN.{length, set, drop}
+use lib.ListN.{length}
 use mir.Syntax.{w64}
 use mir.Val.{toZ, boolByte}
 use mir.Facts.{toZ-pos}
 use Rattle.image.specs.Image.{isChip, Answered}
 use Rattle.image.proofs.Laws.{chip-size}
+use Rattle.mcp2515.specs.declared.Stepped.{Stepped}
+use Rattle.mcp2515.specs.Step.{stepOf, outcomeIn}
 use Rattle.mcp2515.specs.ChipImage.{chipOf}
-use Rattle.bus_log.specs.Log.{recordSize, logRefusal, lastChip, answersOf, lengthRefusal, roomRefusal}
-use Rattle.bus_log.specs.Run.{answerRoom, runRefusal}
+use Rattle.bus_log.specs.Log.{recordSize, logRefusal, lastChip, answerBytes, answersOf, lengthRefusal, roomRefusal}
+use Rattle.bus_log.specs.Run.{answerSize, answerRoom, runRefusal}
 use Rattle.bus_log.specs.Held.{chipRefusal, heldRefusal}
 use Rattle.bus_log.specs.From.{fromAnswers}
 use Rattle.bus_log.proofs.Steps.{one-step}
@@ -28,27 +30,35 @@ no-test true false e = (refl, refl)
 no-test false y e = absurd (omega arith)
 
 -- a record that is not refused for its sizes
-pub whole-sizes : (size room : ℕ) → recordRefusal size room ≡ 0 → (size ≡ recordSize) × (answerRoom 1 ≤ room)
-whole-sizes size room e =
-    let t = no-test (eqb size recordSize) (ltb room (answerRoom 1)) e in
-    (eqb-true size recordSize (t .0), ltb-false room (answerRoom 1) (t .1))
+pub whole-sizes : (asked : Bool) (size room : ℕ) → recordRefusal asked size room ≡ 0 → (size ≡ recordSize) × (answerSize asked ≤ room)
+whole-sizes asked size room e =
+    let t = no-test (eqb size recordSize) (ltb room (answerSize asked)) e in
+    (eqb-true size recordSize (t .0), ltb-false room (answerSize asked) (t .1))
 
--- refusal and answer are stored in the first two bytes
-pub first-two : (xs : List ℕ) (a b : ℕ) → answerRoom 1 ≤ length xs → set (set xs 0 a) 1 b ≡ a ∷ b ∷ drop (answerRoom 1) xs
-first-two [] a b h = absurd (omega arith)
-first-two (x ∷ []) a b h = absurd (omega arith)
-first-two (x ∷ y ∷ xs) a b h = refl
+pub size-most : (asked : Bool) → answerSize asked ≤ 3
+size-most true = omega arith
+size-most false = omega arith
 
-one-refusal : (size room : ℕ) → size ≡ recordSize → recordRefusal size room ≡ runRefusal size room
+-- the room of one record is its answer's size
+room-one : (asked : Bool) → answerRoom asked 1 ≡ answerSize asked
+room-one true = refl
+room-one false = refl
+
+one-refusal : (asked : Bool) (size room : ℕ) → size ≡ recordSize → recordRefusal asked size room ≡ runRefusal asked size room
 unfolding runRefusal logRefusal
-one-refusal size room e = rw e
+one-refusal asked size room e = rw (e, room-one asked)
+
+one-answer : (asked : Bool) (s : Stepped) → answersOf asked (s ∷ []) ≡ answerBytes asked (outcomeIn s)
+unfolding answersOf
+one-answer true s = refl
+one-answer false s = refl
 
 pub step-is-run : StepIsRun
-unfolding stepAnswer fromAnswers answersOf lastChip
-step-is-run m r answer e =
-    let same = one-refusal (length r) (length answer) e in
+unfolding stepAnswer fromAnswers lastChip
+step-is-run asked m r answer e =
+    let same = one-refusal asked (length r) (length answer) e in
     let one = one-step (chipOf m) r e in
-    (rw same, rw (same, e, one), rw (e, one))
+    (rw same, rw (same, e, one, one-answer asked (stepOf (chipOf m) r), room-one asked), rw (e, one))
 
 -- ---- what a chip answers
 pub held-value : (m : List ℕ) {x v o : ℕ} → isChip m ≡ true → x < 2 ^ 63 → Answered m x v o → toZ w64 x ≡ heldAnswer m v

@@ -2,7 +2,7 @@
 -- of the chip that is lent. Assumes nothing: these are definitions.
 use mathlib.Core.Path.{_≡_}
 use mathlib.Core.Bool.{Bool, true, cond}
-use mathlib.Core.List.{List, _∷_, _++_}
+use mathlib.Core.List.{List, _++_}
 use Prim.Native.Nat.{ℕ}
 use lib.Dec.{eqb, ltb}
 use lib.IntN.{ℤ}
@@ -10,8 +10,8 @@ use lib.ListN.{length, drop}
 use Rattle.image.specs.Image.{imageSize, isChip, powerOnBytes, RefusedKept}
 use Rattle.mcp2515.specs.Step.{powerOn, outcome, nextChip}
 use Rattle.mcp2515.specs.ChipImage.{chipOf}
-use Rattle.bus_log.specs.Log.{recordSize, lengthRefusal, roomRefusal}
-use Rattle.bus_log.specs.Run.{answerRoom, callResult}
+use Rattle.bus_log.specs.Log.{recordSize, lengthRefusal, roomRefusal, answerBytes}
+use Rattle.bus_log.specs.Run.{answerSize, callResult}
 use Rattle.bus_log.specs.Held.{heldRefusal, Held}
 use Rattle.bus_log.specs.From.{fromRefusal, fromAnswers, chipFrom}
 
@@ -35,39 +35,38 @@ powerBytes m = cond (ltb 0 (powerRefusal m)) m (powerOnBytes ++ drop imageSize m
 abbrev pub PowerOnHeld : Type 0
 PowerOnHeld = (isChip powerOnBytes ≡ true) × (chipOf powerOnBytes ≡ powerOn)
 
--- ---- the step of a record r, with room for its answer
--- the refusal: 21, then 6 for a record that is not 16 bytes, then 7 for less room than two bytes
-abbrev pub recordRefusal : ℕ → ℕ → ℕ
-recordRefusal size room =
-    cond (eqb size recordSize) (cond (ltb room (answerRoom 1)) roomRefusal 0) lengthRefusal
+-- ---- the step of a record r, with room for its answer, and for its set where that is asked for
+-- the refusal: 21, then 6 for a record that is not 16 bytes, then 7 for less room than two bytes, with the set three
+abbrev pub recordRefusal : Bool → ℕ → ℕ → ℕ
+recordRefusal asked size room =
+    cond (eqb size recordSize) (cond (ltb room (answerSize asked)) roomRefusal 0) lengthRefusal
 
-abbrev pub stepRefusal : List ℕ → List ℕ → List ℕ → ℕ
-stepRefusal m r answer = heldRefusal m (recordRefusal (length r) (length answer))
+abbrev pub stepRefusal : Bool → List ℕ → List ℕ → List ℕ → ℕ
+stepRefusal asked m r answer = heldRefusal m (recordRefusal asked (length r) (length answer))
 
 -- the bytes of the answer, or minus the refusal; a record that the chip refuses is no refusal of the call
-unfoldable pub stepResult : List ℕ → List ℕ → List ℕ → ℤ
-stepResult m r answer = callResult (stepRefusal m r answer) (answerRoom 1)
+unfoldable pub stepResult : Bool → List ℕ → List ℕ → List ℕ → ℤ
+stepResult asked m r answer = callResult (stepRefusal asked m r answer) (answerSize asked)
 
--- the record's refusal and answer, and then what the room held past them; or, refused, all that it held
-unfoldable pub stepAnswer : List ℕ → List ℕ → List ℕ → List ℕ
-stepAnswer m r answer =
-    cond (ltb 0 (stepRefusal m r answer)) answer
-    (outcome (chipOf m) r .refusal ∷ outcome (chipOf m) r .answer ∷ drop (answerRoom 1) answer)
+-- the record's refusal and answer, its set where that is asked for, and then what the room held past them; or, refused, all that it held
+unfoldable pub stepAnswer : Bool → List ℕ → List ℕ → List ℕ → List ℕ
+stepAnswer asked m r answer =
+    cond (ltb 0 (stepRefusal asked m r answer)) answer (answerBytes asked (outcome (chipOf m) r) ++ drop (answerSize asked) answer)
 
 -- a law that the proofs show: the step of a record is the run of the log that is this record
 abbrev pub StepIsRun : Type 0
 StepIsRun =
-    (m r answer : List ℕ) → length r ≡ recordSize
-    → (stepRefusal m r answer ≡ fromRefusal m r answer)
-    × (stepAnswer m r answer ≡ fromAnswers m r answer)
+    (asked : Bool) (m r answer : List ℕ) → length r ≡ recordSize
+    → (stepRefusal asked m r answer ≡ fromRefusal asked m r answer)
+    × (stepAnswer asked m r answer ≡ fromAnswers asked m r answer)
     × (nextChip (chipOf m) r ≡ chipFrom (chipOf m) r)
 
 -- what the step promises of n and after, in which it leaves the chip and the answer, and of its result x; a record that the chip
 -- refuses changes no byte of the chip
-pub record StepHeld (m r answer n after : List ℕ) (x : ℤ) : Type 0 where
-  pub result : x ≡ stepResult m r answer
-  pub buffer : after ≡ stepAnswer m r answer
-  pub chip : Held (stepRefusal m r answer) m n (nextChip (chipOf m) r)
+pub record StepHeld (asked : Bool) (m r answer n after : List ℕ) (x : ℤ) : Type 0 where
+  pub result : x ≡ stepResult asked m r answer
+  pub buffer : after ≡ stepAnswer asked m r answer
+  pub chip : Held (stepRefusal asked m r answer) m n (nextChip (chipOf m) r)
   pub kept : RefusedKept (outcome (chipOf m) r .refusal) m n
   pub run : StepIsRun
 

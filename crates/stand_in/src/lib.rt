@@ -1,6 +1,7 @@
 // The calls of a C program that holds a chip as bytes of its own. The archive of this crate has the calls
 // marked here and no others, so those of bus_log, compare and log_text stand here once more.
 ghost use mathlib.Core.Path.{_≡_};
+ghost use mathlib.Core.Bool.{true, false};
 ghost use Prim.Native.Nat.{_≤_};
 ghost use lib.ListN.{length};
 ghost use lib.Seq.{sets};
@@ -21,7 +22,6 @@ ghost use Rattle.stand_in.specs.StandIn.{
   heldAnswer,
   zeroOrOne,
 };
-use bus_log::ANSWER_SIZE;
 use bus_log::CHIP_REFUSAL;
 use bus_log::LENGTH_REFUSAL;
 use bus_log::RECORD_SIZE;
@@ -57,16 +57,28 @@ pub extern "C" fn mcp2515_power_on(chip: &mut [u8]) -> i64
 }
 
 // Why a record of size bytes, with room for so many answer bytes, is refused; 0 where it is not.
-fn record_refusal(size: usize, room: usize) -> u8
-    ensures { λ r. ⌜ r ≡ recordRefusal size room ⌝ }
+fn record_refusal(size: usize, room: usize, asked: bool) -> u8
+    ensures { λ r. ⌜ r ≡ recordRefusal asked size room ⌝ }
 {
     if size != RECORD_SIZE {
         return LENGTH_REFUSAL;
     }
-    if room < ANSWER_SIZE {
+    if room < bus_log::answer_size(asked) {
         return ROOM_REFUSAL;
     }
     0
+}
+
+// One record, as a log of its own.
+fn step<'a>(chip: &'a mut [u8], record: &'a [u8], answer: &'a mut [u8], asked: bool) -> i64
+    ensures { λ x. ⌜ StepHeld asked (now (chip .entry)) (now («record» .entry)) (now (answer .entry)) (now (chip .exit)) (now (answer .exit)) x ⌝ }
+{
+    let refusal = bus_log::held_refusal(chip, record_refusal(record.len(), answer.len(), asked));
+    if refusal > 0 {
+        return bus_log::minus(refusal);
+    }
+    bus_log::run_from(chip, record, answer, asked);
+    bus_log::answer_size(asked) as i64
 }
 
 // One record: stores its refusal and answer and returns 2, or changes nothing and returns minus the
@@ -77,16 +89,21 @@ pub extern "C" fn mcp2515_step<'a>(
     record: &'a [u8],
     answer: &'a mut [u8],
 ) -> i64
-    ensures { λ x. ⌜ StepHeld (now (chip .entry)) (now («record» .entry)) (now (answer .entry)) (now (chip .exit)) (now (answer .exit)) x ⌝ }
+    ensures { λ x. ⌜ StepHeld false (now (chip .entry)) (now («record» .entry)) (now (answer .entry)) (now (chip .exit)) (now (answer .exit)) x ⌝ }
 {
-    let refusal = bus_log::held_refusal(chip, record_refusal(record.len(), answer.len()));
-    if refusal > 0 {
-        return bus_log::minus(refusal);
-    }
-    let told = bus_log::run_record(chip, record);
-    answer[0] = told.refusal;
-    answer[1] = told.answer;
-    ANSWER_SIZE as i64
+    step(chip, record, answer, false)
+}
+
+// The same with the record's set, the filters that match its frame: stores three bytes and returns 3.
+#[no_mangle]
+pub extern "C" fn mcp2515_step_set<'a>(
+    chip: &'a mut [u8],
+    record: &'a [u8],
+    answer: &'a mut [u8],
+) -> i64
+    ensures { λ x. ⌜ StepHeld true (now (chip .entry)) (now («record» .entry)) (now (answer .entry)) (now (chip .exit)) (now (answer .exit)) x ⌝ }
+{
+    step(chip, record, answer, true)
 }
 
 // A log from the chip that is lent, which is left as the log leaves it: stores refusal and answer of each
@@ -97,9 +114,9 @@ pub extern "C" fn mcp2515_run_from<'a>(
     log: &'a [u8],
     answers: &'a mut [u8],
 ) -> i64
-    ensures { λ r. ⌜ RunningFrom (now (chip .entry)) (now (log .entry)) (now (answers .entry)) (now (chip .exit)) (now (answers .exit)) r ⌝ }
+    ensures { λ r. ⌜ RunningFrom false (now (chip .entry)) (now (log .entry)) (now (answers .entry)) (now (chip .exit)) (now (answers .exit)) r ⌝ }
 {
-    bus_log::run_from(chip, log, answers)
+    bus_log::run_from(chip, log, answers, false)
 }
 
 // A log from power-on, with no chip to hold.

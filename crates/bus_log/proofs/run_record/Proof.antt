@@ -25,6 +25,9 @@ array-read-t13 c = search needs
 array-read-t16 : tie.Need-array-read-t16
 array-read-t16 c = search needs
 
+array-read-t19 : tie.Need-array-read-t19
+array-read-t19 c = search needs
+
 same-length : tie.Need-same-length
 same-length c = search needs
 
@@ -44,5 +47,6 @@ run-record-spec =
     run-records-requires
     array-read-t13
     array-read-t16
+    array-read-t19
     same-length
     returns-3)

@@ -20,8 +20,8 @@ abbrev Inv-loop : tie.InvT-loop
 Inv-loop first second before count entries₀ one₀ two₀ told₀ other₀ left₀ done₀ found₀ entries one two told other left done found =
     (isChip one ≡ true)
     × (isChip two ≡ true)
-    × (length told ≡ 1024)
-    × (length other ≡ 1024)
+    × (length told ≡ 1536)
+    × (length other ≡ 1536)
     × (done + left ≡ before + count)
     × (found ≤ done)
     × (length entries ≡ length entries₀)
@@ -81,7 +81,7 @@ list-block-requires c κs =
     let w-2 = ran-2 .ensures in
     let fit : n ≤ l .left = omega (arith, c .before .before .before .before .before .before .before .before .before .before .before .before .before .least .ensures) in
     let parts =
-    block-parts n (l .left) (l .done) (chipOf (l .one)) (chipOf (l .two)) (chipOf (ran .last .0)) (chipOf (ran-2 .last .0)) (a .first .now) (a .second .now) (ran .last .1 .1 .1 .1 .0) (ran-2 .last .1 .1 .1 .1 .0) (drop (answerRoom n) (l .told)) (drop (answerRoom n) (l .other)) fit (w .answers) (w-2 .answers) (w .ahead .chip) (w-2 .ahead .chip) in (
+    block-parts n (l .left) (l .done) (chipOf (l .one)) (chipOf (l .two)) (chipOf (ran .last .0)) (chipOf (ran-2 .last .0)) (a .first .now) (a .second .now) (ran .last .1 .1 .1 .1 .0) (ran-2 .last .1 .1 .1 .1 .0) (drop (answerRoom true n) (l .told)) (drop (answerRoom true n) (l .other)) fit (w .answers) (w-2 .answers) (w .ahead .chip) (w-2 .ahead .chip) in (
       (omega arith, omega arith, omega arith, omega arith, l .inv .5),
       λ some.
           let room = c .before .before .before .before .before .before .before .before .before .before .before .before .before .before .before .before .before .before .before .pre .1 (λ z. some (l .inv .6 ∙ z)) in
@@ -108,8 +108,8 @@ loop-again c =
     let w-2 = ran-2 .ensures in
     let fit : n ≤ l .left = omega (arith, c .before .before .before .before .before .before .before .before .before .before .before .before .before .before .before .before .least .ensures) in
     let list = c .before .before .list-block in
-    let parts = block-parts n (l .left) (l .done) (chipOf (l .one)) (chipOf (l .two)) (chipOf (ran .last .0)) (chipOf (ran-2 .last .0)) (a .first .now) (a .second .now) (ran .last .1 .1 .1 .1 .0) (ran-2 .last .1 .1 .1 .1 .0) (drop (answerRoom n) (l .told)) (drop (answerRoom n) (l .other)) fit (w .answers) (w-2 .answers) (w .ahead .chip) (w-2 .ahead .chip) in
-    let most = block-most n (l .left) (l .done) (chipOf (l .one)) (chipOf (l .two)) (chipOf (ran .last .0)) (chipOf (ran-2 .last .0)) (a .first .now) (a .second .now) (ran .last .1 .1 .1 .1 .0) (ran-2 .last .1 .1 .1 .1 .0) (drop (answerRoom n) (l .told)) (drop (answerRoom n) (l .other)) fit (w .answers) (w-2 .answers) (w .ahead .chip) (w-2 .ahead .chip) in (
+    let parts = block-parts n (l .left) (l .done) (chipOf (l .one)) (chipOf (l .two)) (chipOf (ran .last .0)) (chipOf (ran-2 .last .0)) (a .first .now) (a .second .now) (ran .last .1 .1 .1 .1 .0) (ran-2 .last .1 .1 .1 .1 .0) (drop (answerRoom true n) (l .told)) (drop (answerRoom true n) (l .other)) fit (w .answers) (w-2 .answers) (w .ahead .chip) (w-2 .ahead .chip) in
+    let most = block-most n (l .left) (l .done) (chipOf (l .one)) (chipOf (l .two)) (chipOf (ran .last .0)) (chipOf (ran-2 .last .0)) (a .first .now) (a .second .now) (ran .last .1 .1 .1 .1 .0) (ran-2 .last .1 .1 .1 .1 .0) (drop (answerRoom true n) (l .told)) (drop (answerRoom true n) (l .other)) fit (w .answers) (w-2 .answers) (w .ahead .chip) (w-2 .ahead .chip) in (
       w .ahead .again,
       w-2 .ahead .again,
       c .before .before .before .before .before .before .before .before .before .before .before .told2 .given,

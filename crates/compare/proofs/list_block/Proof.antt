@@ -1,6 +1,6 @@
 -- What is listed of the records from one on, behind what was listed before it, is all that is listed. Assumes nothing.
 use mathlib.Core.Path.{_≡_, refl, _∙_}
-use mathlib.Core.Bool.{cond, not, _&&_}
+use mathlib.Core.Bool.{true, cond, not, _&&_}
 use Prim.Native.Nat.{_+_, _*_, _≤_}
 use native.Mathlib.Omega.{arith}
 use borrow.Author.Needs.{needs}
@@ -22,8 +22,8 @@ Inv-loop first second told other before count entries₀ found storing left₀ a
     (storing ≡ ltb 0 (length entries₀))
     × (at ≡ done * recordSize)
     × (done + left ≡ before + count)
-    × (out + answerRoom left ≤ length told)
-    × (out + answerRoom left ≤ length other)
+    × (out + answerRoom true left ≤ length told)
+    × (out + answerRoom true left ≤ length other)
     × (listed ≤ done)
     × (length entries ≡ length entries₀)
     × (listed + length (differencesIn left done (drop at first) (drop out told) (drop at second) (drop out other)) ≡ found + length (differencesIn count before (drop (before * recordSize) first) told (drop (before * recordSize) second) other))
@@ -65,7 +65,7 @@ put-entry-if-requires c κs e =
     let two = c .before .before .told-at2 in
     let same = c .before .same-record in
     let both = and-both _ _ e in
-    let parts = record-parts (l .left) (l .done) (l .at) (l .out) (a .first .now) (a .told .now) (a .second .now) (a .other .now) (same .result) (one .result) (two .result) (omega arith) (one .ok) (two .ok) (same .ensures) (one .ensures) (two .ensures) in
+    let parts = record-parts (l .left) (l .done) (l .at) (l .out) (a .first .now) (a .told .now) (a .second .now) (a .other .now) (same .result) (one .result) (two .result) (omega arith) (one .ensures .1) (two .ensures .1) (same .ensures) (one .ensures .0) (two .ensures .0) in
     let some = some-left (not (same .result && eqb (one .result) (two .result))) _ _ _ parts (both .1) in
     let room = c .before .before .before .before .before .before .before .before .before .before .before .pre .1 (λ z. absurd (omega (arith, ltb-true 0 (length (a .entries .now)) (both .0)))) in
     omega arith
@@ -103,7 +103,7 @@ loop-again c =
     let put = c .before .before .put-entry-if in
     let test = not (same .result && eqb (one .result) (two .result)) in
     let item : Difference = record { number = l .done + 1; first = toldIn (one .result); second = toldIn (two .result) } in
-    let parts = record-parts (l .left) (l .done) (l .at) (l .out) (a .first .now) (a .told .now) (a .second .now) (a .other .now) (same .result) (one .result) (two .result) (omega arith) (one .ok) (two .ok) (same .ensures) (one .ensures) (two .ensures) in
+    let parts = record-parts (l .left) (l .done) (l .at) (l .out) (a .first .now) (a .told .now) (a .second .now) (a .other .now) (same .result) (one .result) (two .result) (omega arith) (one .ensures .1) (two .ensures .1) (same .ensures) (one .ensures .0) (two .ensures .0) in
     let stored : put .last .1 .0 ≡ cond (ltb 0 (length (l .entries)) && test) (sets (l .entries) (entryRoom (l .listed)) (entryOf item)) (l .entries) = rw (l .inv .6) (put .ensures) in (
       l .inv .0,
       omega arith,

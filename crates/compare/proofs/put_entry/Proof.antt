@@ -1,9 +1,9 @@
--- Eight bytes stored one after the other. Assumes nothing.
+-- Ten bytes stored one after the other. Assumes nothing.
 use mathlib.Core.Path.{_≡_}
 use Prim.Native.Nat.{suc, _+_}
 use native.Mathlib.Omega.{arith}
-use borrow.Author.Needs.{needs}
 use lib.ListN.{length-set}
+use borrow.Author.Needs.{needs}
 use Rattle.compare.proofs.put_entry.Statement.{statement}
 use Rattle.compare.proofs.put_entry.Tie as tie
 
@@ -76,6 +76,24 @@ add-entries-7 c = search needs
 slice-write-entries-8 : tie.Need-slice-write-entries-8
 slice-write-entries-8 c = simp length-set (omega arith)
 
+cast-entries-9 : tie.Need-cast-entries-9
+cast-entries-9 c = search needs
+
+add-entries-8 : tie.Need-add-entries-8
+add-entries-8 c = search needs
+
+slice-write-entries-9 : tie.Need-slice-write-entries-9
+slice-write-entries-9 c = simp length-set (omega arith)
+
+cast-entries-10 : tie.Need-cast-entries-10
+cast-entries-10 c = search needs
+
+add-entries-9 : tie.Need-add-entries-9
+add-entries-9 c = search needs
+
+slice-write-entries-10 : tie.Need-slice-write-entries-10
+slice-write-entries-10 c = simp length-set (omega arith)
+
 same-length : tie.Need-same-length
 same-length c = simp length-set
 
@@ -89,7 +107,9 @@ returns c =
     let s5 : at + 5 ≡ suc (suc (suc (suc (suc at)))) = omega arith in
     let s6 : at + 6 ≡ suc (suc (suc (suc (suc (suc at))))) = omega arith in
     let s7 : at + 7 ≡ suc (suc (suc (suc (suc (suc (suc at)))))) = omega arith in
-    rw (s1, s2, s3, s4, s5, s6, s7)
+    let s8 : at + 8 ≡ suc (suc (suc (suc (suc (suc (suc (suc at))))))) = omega arith in
+    let s9 : at + 9 ≡ suc (suc (suc (suc (suc (suc (suc (suc (suc at)))))))) = omega arith in
+    rw (s1, s2, s3, s4, s5, s6, s7, s8, s9)
 
 pub put-entry-spec : {M : Type 1} → statement M
 put-entry-spec =
@@ -118,5 +138,11 @@ put-entry-spec =
     cast-entries-8
     add-entries-7
     slice-write-entries-8
+    cast-entries-9
+    add-entries-8
+    slice-write-entries-9
+    cast-entries-10
+    add-entries-9
+    slice-write-entries-10
     same-length
     returns)

@@ -1,33 +1,42 @@
--- The bytes at a place are the first two from there on. Assumes nothing.
+-- The bytes at a place are the first three from there on. Assumes nothing.
 use native.Mathlib.Nat.{add-zero}
-use borrow.Author.Needs.{needs}
+use native.Mathlib.Omega.{arith}
 use lib.Seq.{getD-drop}
+use borrow.Author.Needs.{needs}
 use Rattle.compare.proofs.told_at.Statement.{statement}
 use Rattle.compare.proofs.told_at.Tie as tie
 
-shared-slice-read-paired : tie.Need-shared-slice-read-paired
-shared-slice-read-paired c = search needs
+add-joined : tie.Need-add-joined
+add-joined c = search needs
 
-add-paired : tie.Need-add-paired
-add-paired c = search needs
+shared-slice-read-joined : tie.Need-shared-slice-read-joined
+shared-slice-read-joined c = search needs
 
-shared-slice-read-paired-2 : tie.Need-shared-slice-read-paired-2
-shared-slice-read-paired-2 c = search needs
+add-joined-2 : tie.Need-add-joined-2
+add-joined-2 c = search needs
 
-paired-requires : tie.Need-paired-requires
-paired-requires c κs = search needs
+shared-slice-read-joined-2 : tie.Need-shared-slice-read-joined-2
+shared-slice-read-joined-2 c = search needs
+
+shared-slice-read-joined-3 : tie.Need-shared-slice-read-joined-3
+shared-slice-read-joined-3 c = search needs
+
+joined-requires : tie.Need-joined-requires
+joined-requires c κs = search needs
 
 returns : tie.Need-returns
 returns c =
-    let w = c .paired .ensures in
-    simp (w .0, w .1, getD-drop, add-zero)
+    let w = c .joined .ensures in
+    (simp (w .3, w .2, w .1, getD-drop, add-zero), omega (arith, w .0))
 
 pub told-at-spec : {M : Type 1} → statement M
 told-at-spec =
     tie.close
     (tie.spec
-    shared-slice-read-paired
-    add-paired
-    shared-slice-read-paired-2
-    paired-requires
+    add-joined
+    shared-slice-read-joined
+    add-joined-2
+    shared-slice-read-joined-2
+    shared-slice-read-joined-3
+    joined-requires
     returns)

@@ -3,7 +3,7 @@ use native.Mathlib.Omega.{arith}
 use borrow.Author.Needs.{needs}
 use Rattle.log_text.specs.Line.{space, newline, lineOf}
 use Rattle.log_text.proofs.Stores.{then-stored}
-use Rattle.log_text.proofs.Lines.{field-length, number-length, byte-length}
+use Rattle.log_text.proofs.Lines.{number-length, byte-length, after-number, after-byte}
 use Rattle.log_text.proofs.put_line.Statement.{statement}
 use Rattle.log_text.proofs.put_line.Tie as tie
 
@@ -13,12 +13,12 @@ put-field-requires c κs = omega (arith, number-length (c .before .before .args 
 put-field-requires-2 : tie.Need-put-field-requires-2
 put-field-requires-2 c κs =
     let a = c .before .before .before .before .before .before .args in
-    omega (arith, number-length (a .number) (omega arith), byte-length (a .refusal) (omega arith), field-length (a .number) space, c .before .before .before .put-field .ensures .place)
+    omega (arith, after-number (a .number) space (omega arith) (c .before .before .before .put-field .ensures), byte-length (a .refusal) (omega arith))
 
 put-field-requires-3 : tie.Need-put-field-requires-3
 put-field-requires-3 c κs =
     let a = c .before .before .before .before .before .before .before .before .before .before .args in
-    omega (arith, number-length (a .number) (omega arith), byte-length (a .refusal) (omega arith), byte-length (a .answer) (omega arith), field-length (a .number) space, field-length (a .refusal) space, c .before .before .before .before .before .before .before .put-field .ensures .place, c .before .before .before .put-field2 .ensures .place)
+    omega (arith, after-number (a .number) space (omega arith) (c .before .before .before .before .before .before .before .put-field .ensures), after-byte (a .refusal) space (omega arith) (c .before .before .before .put-field2 .ensures), byte-length (a .answer) (omega arith))
 
 same-length : tie.Need-same-length
 same-length c = search needs
@@ -31,7 +31,7 @@ returns c =
     let second = c .before .before .before .before .before .before .put-field2 .ensures in
     let third = c .before .before .put-field3 .ensures in (
       then-stored first (then-stored second third),
-      omega (arith, number-length (a .number) (omega arith), byte-length (a .refusal) (omega arith), byte-length (a .answer) (omega arith), field-length (a .number) space, field-length (a .refusal) space, field-length (a .answer) newline, first .place, second .place, third .place),
+      omega (arith, after-number (a .number) space (omega arith) first, after-byte (a .refusal) space (omega arith) second, after-byte (a .answer) newline (omega arith) third),
     )
 
 pub put-line-spec : {M : Type 1} → statement M

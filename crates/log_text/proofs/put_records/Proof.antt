@@ -30,8 +30,8 @@ Inv-loop image₀ number part count out₀ left₀ at₀ len₀ n₀ image out l
     × (length out ≡ length out₀)
     × (length image ≡ imageSize)
     × ((after : List ℕ) (end : ℕ)
-    → Stored out len (linesOf n (stepsOf left (chipOf image) (drop at part))) after end
-    → Stored out₀ 0 (linesOf number (stepsOf count (chipOf image₀) part)) after end)
+    → Stored out len (linesOf n (drop at part) (stepsOf left (chipOf image) (drop at part))) after end
+    → Stored out₀ 0 (linesOf number part (stepsOf count (chipOf image₀) part)) after end)
     × (lastChip (chipOf image) (stepsOf left (chipOf image) (drop at part)) ≡ lastChip (chipOf image₀) (stepsOf count (chipOf image₀) part))
     × (drop 146 image ≡ drop 146 image₀)
     × (allRefused (stepsOf count (chipOf image₀) part) ≡ true → (image ≡ image₀) × (allRefused (stepsOf left (chipOf image) (drop at part)) ≡ true))
@@ -57,14 +57,17 @@ part-run-record-end c = search needs
 run-record-requires : tie.Need-run-record-requires Inv-loop μ-loop
 run-record-requires c κs = search needs
 
-cast-put-line : tie.Need-cast-put-line Inv-loop μ-loop
-cast-put-line c = search needs
+shared-slice-read-put-told : tie.Need-shared-slice-read-put-told Inv-loop μ-loop
+shared-slice-read-put-told c = search needs
 
-add-put-line : tie.Need-add-put-line Inv-loop μ-loop
-add-put-line c = search needs
+cast-put-told : tie.Need-cast-put-told Inv-loop μ-loop
+cast-put-told c = search needs
 
-put-line-requires : tie.Need-put-line-requires Inv-loop μ-loop
-put-line-requires c κs = search needs
+add-put-told : tie.Need-add-put-told Inv-loop μ-loop
+add-put-told c = search needs
+
+put-told-requires : tie.Need-put-told-requires Inv-loop μ-loop
+put-told-requires c κs = search needs
 
 add-n : tie.Need-add-n Inv-loop μ-loop
 add-n c = search needs
@@ -77,9 +80,9 @@ loop-less c = search needs
 
 loop-again : tie.Need-loop-again Inv-loop μ-loop
 loop-again c =
-    let l = c .before .before .before .before .before .before .before .before .before .before .loop in
-    let part = c .before .before .before .before .before .before .before .before .before .before .before .before .before .before .args .part .now in
-    let run = c .before .before .before .before .before .before .run-record in
+    let l = c .before .before .before .before .before .before .before .before .before .before .before .loop in
+    let part = c .before .before .before .before .before .before .before .before .before .before .before .before .before .before .before .args .part .now in
+    let run = c .before .before .before .before .before .before .before .run-record in
     let o = run .result in
     let m = l .image in
     let after = run .last .0 in
@@ -88,11 +91,11 @@ loop-again c =
     let size : length r ≡ recordSize = length-take-le recordSize (drop (l .at) part) (rw length-drop (omega arith)) in
     let ran = rw whole at (run .ensures) in
     let moved = ran .moved (l .inv .4) size in
-    let s : Stepped = record { chip = chipOf after; refusal = o .refusal; answer = o .answer } in
+    let s : Stepped = record { chip = chipOf after; refusal = o .refusal; answer = o .answer; matched = o .matched } in
     let stepped : s ≡ stepOf (chipOf m) r =
-    ap (λ (k : Chip). record { chip = k; refusal = o .refusal; answer = o .answer }) (moved .packed .chip)
-    ∙ ap (λ (y : Outcome). record { chip = stepOf (chipOf m) r .chip; refusal = y .refusal; answer = y .answer }) (ran .told (l .inv .4) size) in
-    let line = c .before .before .put-line .ensures in
+    ap (λ (k : Chip). record { chip = k; refusal = o .refusal; answer = o .answer; matched = o .matched }) (moved .packed .chip)
+    ∙ ap (λ (y : Outcome). record { chip = stepOf (chipOf m) r .chip; refusal = y .refusal; answer = y .answer; matched = y .matched }) (ran .told (l .inv .4) size) in
+    let line = c .before .before .put-told .ensures in
     let lines = next-line (l .left) (l .n) (chipOf m) part (l .at) s (omega arith) (omega arith) stepped in
     let chip = next-chip (l .left) (l .n) (chipOf m) part (l .at) s (omega arith) (omega arith) stepped in (
       omega arith,
@@ -134,9 +137,10 @@ put-records-spec =
     part-run-record-start
     part-run-record-end
     run-record-requires
-    cast-put-line
-    add-put-line
-    put-line-requires
+    shared-slice-read-put-told
+    cast-put-told
+    add-put-told
+    put-told-requires
     add-n
     sub-left
     loop-less

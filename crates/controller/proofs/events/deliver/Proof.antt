@@ -1,6 +1,5 @@
 use mathlib.Core.Path.{ap, _∙_}
 use Rattle.registers.specs.declared.Control.{Control}
-use Rattle.receiving.specs.Receiving.{receptionNumber}
 use Rattle.controller.specs.Sending.{sentBy}
 use Rattle.controller.proofs.Acts.{packed, received}
 use borrow.Author.Needs.{needs}
@@ -22,20 +21,17 @@ put-control-requires c κs = search needs
 receive-requires : tie.Need-receive-requires
 receive-requires c κs = search needs
 
-reception-number-requires : tie.Need-reception-number-requires
-reception-number-requires c κs = search needs
-
 same-length : tie.Need-same-length
 same-length c = search needs
 
 returns : tie.Need-returns
 returns c =
-    let a = c .before .before .before .before .before .before .before .before .before .before .before .before .before .before .before .args in
-    let sent = c .before .before .before .before .before .before .before .before .sent .ensures ∙ ap (λ (k : Control). sentBy k (a .buffer)) (c .before .before .before .before .before .before .before .before .before .before .control-of .ensures .image (c .before .before .before .before .before .before .before .before .before .before .before .before .before .before .before .pre)) in
+    let a = c .before .before .before .before .before .before .before .before .before .before .before .before .before .before .args in
+    let sent = c .before .before .before .before .before .before .before .sent .ensures ∙ ap (λ (k : Control). sentBy k (a .buffer)) (c .before .before .before .before .before .before .before .before .before .control-of .ensures .image (c .before .before .before .before .before .before .before .before .before .before .before .before .before .before .pre)) in
     let w =
-    received (c .before .before .before .before .before .before .before .before .before .before .before .before .frame-sent .result) (packed (c .before .before .before .before .before .before .before .before .before .before .before .before .before .before .before .pre) (c .before .before .before .before .before .before .before .put-control .ensures) sent)
-    (c .before .before .before .receive .ensures .0) (c .before .before .before .receive .ensures .1) in
-    simp (← c .before .before .before .before .before .before .before .before .before .before .before .before .frame-sent .ensures) (c .reception-number .ensures ∙ ap receptionNumber (w .0), w .1)
+    received (a .asked) (c .before .before .before .before .before .before .before .before .before .before .before .frame-sent .result) (packed (c .before .before .before .before .before .before .before .before .before .before .before .before .before .before .pre) (c .before .before .before .before .before .before .put-control .ensures) sent)
+    (c .before .before .receive .ensures .0) (c .before .before .receive .ensures .1) in
+    simp (← c .before .before .before .before .before .before .before .before .before .before .before .frame-sent .ensures) w
 
 pub deliver-spec : {M : Type 1} → statement M
 deliver-spec =
@@ -46,6 +42,5 @@ deliver-spec =
     sent-requires
     put-control-requires
     receive-requires
-    reception-number-requires
     same-length
     returns)

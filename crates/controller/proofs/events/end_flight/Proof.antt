@@ -1,7 +1,7 @@
 use mathlib.Core.Path.{refl, ap, sym, _∙_}
 use Rattle.registers.specs.State.{isLoopback}
 use Rattle.receiving.proofs.Stored.{unchanged}
-use Rattle.controller.proofs.Acts.{ended-idle, ended-of}
+use Rattle.controller.proofs.Acts.{ended-idle, ended-of, plainly}
 use borrow.Author.Needs.{needs}
 use Rattle.controller.proofs.events.end_flight.Statement.{statement}
 use Rattle.controller.proofs.events.end_flight.Tie as tie
@@ -24,6 +24,9 @@ is-loopback-requires c κs = search needs
 enum-told : tie.Need-enum-told
 enum-told c = search needs
 
+plain-requires : tie.Need-plain-requires
+plain-requires c κs = search needs
+
 enum-known-flight : tie.Need-enum-known-flight
 enum-known-flight c = search needs
 
@@ -34,7 +37,7 @@ finish-in-requires : tie.Need-finish-in-requires
 finish-in-requires c κs = search needs
 
 returns : tie.Need-returns
-returns c = rw (ended-idle (c .before .before .before .before .before .before .before .before .args .image .now) (c .before .before .before .before .before .before .before .before .args .number) (sym (c .before .before .before .before .before .flight-of .ensures) ∙ c .enum-told .given .1)) (refl, unchanged (c .before .before .before .before .before .before .before .before .args .image .now) (c .before .before .before .before .before .before .before .before .pre))
+returns c = rw (ended-idle (c .before .before .before .before .before .before .before .before .before .args .image .now) (c .before .before .before .before .before .before .before .before .before .args .number) (sym (c .before .before .before .before .before .before .flight-of .ensures) ∙ c .before .enum-told .given .1)) (plainly (c .before .before .before .before .before .before .before .before .before .args .asked) (c .plain .ensures), unchanged (c .before .before .before .before .before .before .before .before .before .args .image .now) (c .before .before .before .before .before .before .before .before .before .pre))
 
 same-length : tie.Need-same-length
 same-length c = search needs
@@ -52,6 +55,7 @@ end-flight-spec =
     mode-of-requires
     is-loopback-requires
     enum-told
+    plain-requires
     enum-known-flight
     end-of-requires
     finish-in-requires

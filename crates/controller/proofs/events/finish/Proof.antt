@@ -15,12 +15,22 @@ end-requires c κs = search needs
 put-control-requires : tie.Need-put-control-requires
 put-control-requires c κs = search needs
 
+plain-requires : tie.Need-plain-requires
+plain-requires c κs = search needs
+
 same-length : tie.Need-same-length
 same-length c = search needs
 
 returns : tie.Need-returns
-returns c = (refl, packed (c .before .before .before .before .before .before .before .before .pre) (c .before .before .put-control .ensures) (c .before .before .before .end .ensures ∙ ap (λ (k : Control). endedBy (c .before .before .before .before .before .before .before .before .args .outcome) k (c .before .before .before .before .before .before .before .before .args .buffer)) (c .before .before .before .before .before .control-of .ensures .image (c .before .before .before .before .before .before .before .before .pre))))
+returns c = (c .plain .ensures, packed (c .before .before .before .before .before .before .before .before .before .pre) (c .before .before .before .put-control .ensures) (c .before .before .before .before .end .ensures ∙ ap (λ (k : Control). endedBy (c .before .before .before .before .before .before .before .before .before .args .outcome) k (c .before .before .before .before .before .before .before .before .before .args .buffer)) (c .before .before .before .before .before .before .control-of .ensures .image (c .before .before .before .before .before .before .before .before .before .pre))))
 
 pub finish-spec : {M : Type 1} → statement M
 finish-spec =
-    tie.close (tie.spec control-of-requires end-requires put-control-requires same-length returns)
+    tie.close
+    (tie.spec
+    control-of-requires
+    end-requires
+    put-control-requires
+    plain-requires
+    same-length
+    returns)

@@ -1,6 +1,8 @@
+use Rattle.controller.specs.Events.{idled}
 use mathlib.Core.Path.{refl}
 use Rattle.records.specs.Records.{recordOf}
 use Rattle.receiving.proofs.Stored.{unchanged}
+use Rattle.controller.proofs.Acts.{plainly}
 use borrow.Author.Needs.{needs}
 use Rattle.controller.proofs.events.happen.Statement.{statement}
 use Rattle.controller.proofs.events.happen.Tie as tie
@@ -8,11 +10,20 @@ use Rattle.controller.proofs.events.happen.Tie as tie
 enum-told : tie.Need-enum-told
 enum-told c = search needs
 
+plain-requires : tie.Need-plain-requires
+plain-requires c κs = search needs
+
 enum-told-2 : tie.Need-enum-told-2
 enum-told-2 c = search needs
 
+plain-requires-2 : tie.Need-plain-requires-2
+plain-requires-2 c κs = search needs
+
 enum-told-3 : tie.Need-enum-told-3
 enum-told-3 c = search needs
+
+plain-requires-3 : tie.Need-plain-requires-3
+plain-requires-3 c κs = search needs
 
 enum-told-4 : tie.Need-enum-told-4
 enum-told-4 c = search needs
@@ -26,6 +37,9 @@ enum-told-5 c = search needs
 idle-requires : tie.Need-idle-requires
 idle-requires c κs = search needs
 
+plain-requires-4 : tie.Need-plain-requires-4
+plain-requires-4 c κs = search needs
+
 enum-told-6 : tie.Need-enum-told-6
 enum-told-6 c = search needs
 
@@ -38,23 +52,32 @@ enum-told-7 c = search needs
 hear-error-requires : tie.Need-hear-error-requires
 hear-error-requires c κs = search needs
 
+plain-requires-5 : tie.Need-plain-requires-5
+plain-requires-5 c κs = search needs
+
 enum-told-8 : tie.Need-enum-told-8
 enum-told-8 c = search needs
 
 recover-requires : tie.Need-recover-requires
 recover-requires c κs = search needs
 
+plain-requires-6 : tie.Need-plain-requires-6
+plain-requires-6 c κs = search needs
+
 enum-told-9 : tie.Need-enum-told-9
 enum-told-9 c = search needs
 
+plain-requires-7 : tie.Need-plain-requires-7
+plain-requires-7 c κs = search needs
+
 returns : tie.Need-returns
-returns c = simp (c .enum-told .given .1) (refl, unchanged (c .before .before .before .args .image .now) (c .before .before .before .pre))
+returns c = simp (c .before .enum-told .given .1) (plainly (c .before .before .before .before .args .asked) (c .plain .ensures), unchanged (c .before .before .before .before .args .image .now) (c .before .before .before .before .pre))
 
 returns-2 : tie.Need-returns-2
-returns-2 c = simp (c .enum-told2 .given .1) (refl, unchanged (c .before .before .before .args .image .now) (c .before .before .before .pre))
+returns-2 c = simp (c .before .enum-told2 .given .1) (plainly (c .before .before .before .before .args .asked) (c .plain2 .ensures), unchanged (c .before .before .before .before .args .image .now) (c .before .before .before .before .pre))
 
 returns-3 : tie.Need-returns-3
-returns-3 c = simp (c .enum-told3 .given .1) (refl, unchanged (c .before .before .before .args .image .now) (c .before .before .before .pre))
+returns-3 c = simp (c .before .enum-told3 .given .1) (plainly (c .before .before .before .before .args .asked) (c .plain3 .ensures), unchanged (c .before .before .before .before .args .image .now) (c .before .before .before .before .pre))
 
 same-length : tie.Need-same-length
 same-length c = search needs
@@ -66,7 +89,8 @@ same-length-2 : tie.Need-same-length-2
 same-length-2 c = search needs
 
 returns-5 : tie.Need-returns-5
-returns-5 c = simp (c .before .before .before .before .enum-told5 .given .1) (c .before .before .idle .ensures)
+unfolding idled
+returns-5 c = simp (c .before .before .before .before .before .enum-told5 .given .1) (plainly (c .before .before .before .before .before .before .before .before .args .asked) (rw (c .before .before .before .idle .ensures .0) at (c .plain4 .ensures)), c .before .before .before .idle .ensures .1)
 
 same-length-3 : tie.Need-same-length-3
 same-length-3 c = search needs
@@ -80,35 +104,42 @@ same-length-4 c = search needs
 
 returns-7 : tie.Need-returns-7
 unfolding recordOf
-returns-7 c = simp (c .before .before .before .before .enum-told7 .given .1) (c .before .before .hear-error .ensures)
+returns-7 c = simp (c .before .before .before .before .before .enum-told7 .given .1) (plainly (c .before .before .before .before .before .before .before .before .args .asked) (rw (c .before .before .before .hear-error .ensures .0) at (c .plain5 .ensures)), c .before .before .before .hear-error .ensures .1)
 
 same-length-5 : tie.Need-same-length-5
 same-length-5 c = search needs
 
 returns-8 : tie.Need-returns-8
-returns-8 c = simp (c .before .before .before .before .enum-told8 .given .1) (c .before .before .recover .ensures)
+returns-8 c = simp (c .before .before .before .before .before .enum-told8 .given .1) (plainly (c .before .before .before .before .before .before .before .before .args .asked) (rw (c .before .before .before .recover .ensures .0) at (c .plain6 .ensures)), c .before .before .before .recover .ensures .1)
 
 returns-9 : tie.Need-returns-9
-returns-9 c = simp (c .enum-told9 .given .1) (refl, unchanged (c .before .before .before .args .image .now) (c .before .before .before .pre))
+returns-9 c = simp (c .before .enum-told9 .given .1) (plainly (c .before .before .before .before .args .asked) (c .plain7 .ensures), unchanged (c .before .before .before .before .args .image .now) (c .before .before .before .before .pre))
 
 pub happen-spec : {M : Type 1} → statement M
 happen-spec =
     tie.close
     (tie.spec
     enum-told
+    plain-requires
     enum-told-2
+    plain-requires-2
     enum-told-3
+    plain-requires-3
     enum-told-4
     hear-frame-requires
     enum-told-5
     idle-requires
+    plain-requires-4
     enum-told-6
     end-flight-requires
     enum-told-7
     hear-error-requires
+    plain-requires-5
     enum-told-8
     recover-requires
+    plain-requires-6
     enum-told-9
+    plain-requires-7
     returns
     returns-2
     returns-3

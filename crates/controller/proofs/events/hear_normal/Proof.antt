@@ -5,7 +5,7 @@ use Rattle.registers.specs.Errors.{movedTo, recLess}
 use Rattle.image.specs.Image.{coreOf}
 use Rattle.image.proofs.Laws.{followed}
 use Rattle.receiving.proofs.Stored.{unchanged}
-use Rattle.controller.proofs.Acts.{received}
+use Rattle.controller.proofs.Acts.{received, plainly}
 use Rattle.controller.proofs.Falling.{received-counters}
 use borrow.Author.Needs.{needs}
 use Rattle.controller.proofs.events.hear_normal.Statement.{statement}
@@ -14,11 +14,14 @@ use Rattle.controller.proofs.events.hear_normal.Tie as tie
 is-bus-off-requires : tie.Need-is-bus-off-requires
 is-bus-off-requires c κs = search needs
 
+unheard-requires : tie.Need-unheard-requires
+unheard-requires c κs = search needs
+
 same-length : tie.Need-same-length
 same-length c = search needs
 
 returns : tie.Need-returns
-returns c = simp (sym (c .before .is-bus-off .ensures) ∙ c .if1 .taken) (refl, unchanged (c .before .before .before .before .args .image .now) (c .before .before .before .before .pre))
+returns c = simp (sym (c .before .before .is-bus-off .ensures) ∙ c .before .if1 .taken) (plainly (c .before .before .before .before .before .args .asked) (c .unheard .ensures), unchanged (c .before .before .before .before .before .args .image .now) (c .before .before .before .before .before .pre))
 
 receive-requires : tie.Need-receive-requires
 receive-requires c κs = search needs
@@ -33,7 +36,7 @@ returns-2 : tie.Need-returns-2
 returns-2 c =
     let a = c .before .before .before .before .before .before .before .before .before .before .before .before .args in
     let w =
-    received (a .frame) (unchanged (a .image .now) (c .before .before .before .before .before .before .before .before .before .before .before .before .pre)) (c .before .before .before .before .before .before .receive .ensures .0) (c .before .before .before .before .before .before .receive .ensures .1) in
+    received (a .asked) (a .frame) (unchanged (a .image .now) (c .before .before .before .before .before .before .before .before .before .before .before .before .pre)) (c .before .before .before .before .before .before .receive .ensures .0) (c .before .before .before .before .before .before .receive .ensures .1) in
     simp (sym (c .before .before .before .before .before .before .before .before .before .is-bus-off .ensures) ∙ c .before .before .before .before .before .before .before .before .if1 .left, ← received-counters (coreOf (a .image .now)) (a .frame))
     (w .0, followed (λ (k : Core). withControl k (movedTo (k .control) (recLess (k .control .counters)))) (w .1) (c .before .before .count-good .ensures))
 
@@ -42,6 +45,7 @@ hear-normal-spec =
     tie.close
     (tie.spec
     is-bus-off-requires
+    unheard-requires
     same-length
     returns
     receive-requires
