@@ -21,14 +21,15 @@ struct case_group {
     size_t count;
 };
 
-/* Tables of cases_marked.c, cases_spi.c, cases_reset.c, cases_bus.c, cases_length.c and
- * cases_match.c. */
+/* Tables of cases_marked.c, cases_spi.c, cases_reset.c, cases_bus.c, cases_length.c,
+ * cases_match.c and cases_set.c. */
 extern const struct case_group marked_cases; /* W1 to W12, bench errors, refusals */
 extern const struct case_group spi_cases;    /* registers and instructions */
 extern const struct case_group reset_cases;  /* RESET: kept, cleared, and what follows */
 extern const struct case_group bus_cases;    /* receiving, sending, modes, errors */
 extern const struct case_group length_cases; /* length codes */
 extern const struct case_group match_cases;  /* the bits that filters and masks decide by */
+extern const struct case_group set_cases;    /* all filters that match */
 
 /* All tables one after another, in this order. */
 size_t case_count(void);

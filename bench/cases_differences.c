@@ -1,7 +1,8 @@
 /*
  * Pairs of logs with the entries that comparing them must give, as bytes, and
  * what is left of the longer one. Each pair is tried in both orders and with
- * room for all entries, for more, for a byte less and for none.
+ * room for all entries, for more, for a byte less, an entry less, without the sets
+ * and for none.
  */
 #include <string.h>
 
@@ -45,6 +46,8 @@ static void with_each_room(struct pair_case c, unsigned left_of, size_t left)
     hand_over(c, left_of, left);
     c.entries_len = exact - ENTRY_BYTES;
     hand_over(c, left_of, left);
+    c.entries_len = exact / ENTRY_BYTES * 8; /* enough without the sets */
+    hand_over(c, left_of, left);
     c.entries_len = 0;
     hand_over(c, left_of, left);
 }
@@ -56,6 +59,8 @@ static void swap_entries(const uint8_t *entries, size_t count, uint8_t *swapped)
         memcpy(swapped + i, entries + i, 4);
         memcpy(swapped + i + 4, entries + i + 6, 2);
         memcpy(swapped + i + 6, entries + i + 4, 2);
+        swapped[i + 8] = entries[i + 9];
+        swapped[i + 9] = entries[i + 8];
     }
 }
 
@@ -126,7 +131,8 @@ static void record_alone(void)
         sc_xfer(s, sent[i], 0x87);
         sc_high(s);
     }
-    expect_entries("the record alone differs", 1, (const uint8_t[]){0, 0, 0, 4, 0, 0x87, 0, 0x87});
+    expect_entries("the record alone differs", 1,
+                   (const uint8_t[]){0, 0, 0, 4, 0, 0x87, 0, 0x87, 0, 0});
 }
 
 /* Every byte of a record counts, also of one that is refused. */
@@ -139,7 +145,7 @@ static void each_byte_alone(void)
         record[i] ^= 0x01;
         sc_raw(&second, record, REFUSED_FIELD, 0);
         expect_entries("one byte of a refused record differs", 1,
-                       (const uint8_t[]){0, 0, 0, 1, 2, 0, 2, 0});
+                       (const uint8_t[]){0, 0, 0, 1, 2, 0, 2, 0, 0, 0});
     }
 }
 
@@ -154,9 +160,9 @@ static void refusal_alone(void)
     sc_refused(&second, REFUSED_SELECT, KIND_SELECT_HIGH, 0);
     expect_entries("the refusal alone differs", 3,
                    (const uint8_t[]){
-                       0, 0, 0, 1, 0, 0, 0, 3,
-                       0, 0, 0, 2, 0, 0, 1, 0,
-                       0, 0, 0, 3, 0, 0, 1, 0,
+                       0, 0, 0, 1, 0, 0, 0, 3, 0, 0,
+                       0, 0, 0, 2, 0, 0, 1, 0, 0, 0,
+                       0, 0, 0, 3, 0, 0, 1, 0, 0, 0,
                    });
 }
 
@@ -168,8 +174,8 @@ static void answer_alone(void)
     sc_read(&second, TXB0CTRL + D0, 0x34);
     expect_entries("the answer alone differs", 2,
                    (const uint8_t[]){
-                       0, 0, 0, 4, 0, 0x00, 0, 0x00,
-                       0, 0, 0, 9, 0, 0x12, 0, 0x34,
+                       0, 0, 0, 4, 0, 0x00, 0, 0x00, 0, 0,
+                       0, 0, 0, 9, 0, 0x12, 0, 0x34, 0, 0,
                    });
 }
 
@@ -184,11 +190,11 @@ static void refusal_and_answer(void)
     sc_refused(&second, REFUSED_SELECT, KIND_SELECT_HIGH, 0);
     expect_entries("refusal and answer differ", 5,
                    (const uint8_t[]){
-                       0, 0, 0, 1, 0, 0x00, 0, 3,
-                       0, 0, 0, 2, 0, 0x00, 1, 0,
-                       0, 0, 0, 3, 0, 0x00, 1, 0,
-                       0, 0, 0, 4, 0, 0x87, 1, 0,
-                       0, 0, 0, 5, 0, 0x00, 1, 0,
+                       0, 0, 0, 1, 0, 0x00, 0, 3, 0, 0,
+                       0, 0, 0, 2, 0, 0x00, 1, 0, 0, 0,
+                       0, 0, 0, 3, 0, 0x00, 1, 0, 0, 0,
+                       0, 0, 0, 4, 0, 0x87, 1, 0, 0, 0,
+                       0, 0, 0, 5, 0, 0x00, 1, 0, 0, 0,
                    });
 }
 
@@ -196,14 +202,16 @@ static void record_and_refusal(void)
 {
     sc_refused(&first, REFUSED_FIELD, KINDS, 0);
     sc_rx_error(&second, 0);
-    expect_entries("record and refusal differ", 1, (const uint8_t[]){0, 0, 0, 1, 2, 0, 0, 0});
+    expect_entries("record and refusal differ", 1,
+                   (const uint8_t[]){0, 0, 0, 1, 2, 0, 0, 0, 0, 0});
 }
 
 static void record_and_answer(void)
 {
     sc_rx_error(&first, 0);
     sc_idle(&second, 3);
-    expect_entries("record and answer differ", 1, (const uint8_t[]){0, 0, 0, 1, 0, 0, 0, 3});
+    expect_entries("record and answer differ", 1,
+                   (const uint8_t[]){0, 0, 0, 1, 0, 0, 0, 3, 0, 0});
 }
 
 static void all_three(void)
@@ -211,7 +219,145 @@ static void all_three(void)
     sc_refused(&first, REFUSED_FIELD, KINDS, 0);
     sc_idle(&second, 3);
     expect_entries("record, refusal and answer differ", 1,
-                   (const uint8_t[]){0, 0, 0, 1, 2, 0, 0, 3});
+                   (const uint8_t[]){0, 0, 0, 1, 2, 0, 0, 3, 0, 0});
+}
+
+/* ---- the set ---- */
+
+/* RXF2 takes SIDH 00h or 01h, as RXF3 to RXF5 take 00h; RXF0 and RXF1 take any. */
+static void differ_in_rxf2(void)
+{
+    for (unsigned i = 0; i < 2; i++) {
+        struct script *s = i == 0 ? &first : &second;
+        sc_write(s, RXM1SIDH, 0xFF);
+        sc_write(s, RXF2SIDH, (uint8_t)i);
+    }
+}
+
+static void on_both(void (*write)(struct script *s))
+{
+    write(&first);
+    write(&second);
+}
+
+/* Not listened to, in RXB0, lost, unmatched, refused, and lost with the same set. */
+static void six_frames(struct script *s)
+{
+    static const uint8_t damaged[RECORD_BYTES] = {KIND_FRAME, 0, LENGTH_CODE_MAX + 1};
+    sc_std(s, 0x008, RX_NOT_LISTENING);
+    sc_mode(s, MODE_NORMAL);
+    sc_std(s, 0x008, RX_IN_RXB0);
+    sc_std(s, 0x000, RX_LOST);
+    sc_frame(s, FRAME_EXTENDED, 0x008, 0, NULL, RX_UNMATCHED);
+    sc_raw(s, damaged, REFUSED_FIELD, 0);
+    sc_std(s, 0x7F8, RX_LOST);
+}
+
+static void set_alone(void)
+{
+    differ_in_rxf2();
+    on_both(six_frames);
+    expect_entries("the set alone differs", 3,
+                   (const uint8_t[]){
+                       0, 0, 0, 9,  0, 0, 0, 0, 0x00, 0x00,
+                       0, 0, 0, 17, 0, 1, 0, 1, 0x03, 0x07,
+                       0, 0, 0, 18, 0, 3, 0, 3, 0x3F, 0x3B,
+                   });
+}
+
+static void own_frame(struct script *s)
+{
+    sc_mode(s, MODE_LOOPBACK);
+    sc_rts(s, 1);
+    sc_idle(s, 0);
+    sc_refused(s, REFUSED_STATE, KIND_FRAME_ENDS, END_LOST);
+    sc_end(s, END_SENT, RX_IN_RXB0);
+}
+
+static void set_of_own_frame_alone(void)
+{
+    differ_in_rxf2();
+    on_both(own_frame);
+    expect_entries("the set of an own frame in Loopback alone differs", 2,
+                   (const uint8_t[]){
+                       0, 0, 0, 9,  0, 0, 0, 0, 0x00, 0x00,
+                       0, 0, 0, 21, 0, 1, 0, 1, 0x3F, 0x3B,
+                   });
+}
+
+/* RXM 11 takes the frame in both logs; filter n matches it in the first one alone. */
+static void each_bit_of_the_set(void)
+{
+    static const uint8_t at[6] = {RXF0SIDH, RXF1SIDH, RXF2SIDH, RXF3SIDH, RXF4SIDH, RXF5SIDH};
+    for (unsigned n = 0; n < 6; n++) {
+        for (unsigned i = 0; i < 2; i++) {
+            struct script *s = i == 0 ? &first : &second;
+            sc_write(s, RXM0SIDH, 0xFF);
+            sc_write(s, RXM1SIDH, 0xFF);
+            for (unsigned j = 0; j < 6; j++)
+                sc_write(s, at[j], i == 0 && j == n ? 0x24 : 0x55);
+            sc_write(s, RXB0CTRL, RXM);
+            sc_mode(s, MODE_NORMAL);
+            sc_std(s, 0x123, RX_IN_RXB0);
+        }
+        expect_entries("one bit of the set differs", 2,
+                       (const uint8_t[]){
+                           0, 0, 0, (uint8_t)(14 + 5 * n), 0, 0, 0, 0, 0, 0,
+                           0, 0, 0, 51, 0, 1, 0, 1, (uint8_t)(1u << n), 0,
+                       });
+    }
+}
+
+/* The frames are not the same; what they are answered is. */
+static void record_and_set(void)
+{
+    for (unsigned i = 0; i < 2; i++) {
+        struct script *s = i == 0 ? &first : &second;
+        sc_write(s, RXM1SIDH, 0xFF);
+        sc_mode(s, MODE_LISTEN_ONLY);
+        sc_std(s, i == 0 ? 0x123 : 0x001, RX_IN_RXB0);
+    }
+    expect_entries("record and set differ", 1,
+                   (const uint8_t[]){0, 0, 0, 11, 0, 1, 0, 1, 0x03, 0x3F});
+}
+
+/* RXF0 takes SIDH 00h or 01h, RXF1 takes 01h: for RXB0, or for RXB1. */
+static void answer_and_set(void)
+{
+    for (unsigned i = 0; i < 2; i++) {
+        struct script *s = i == 0 ? &first : &second;
+        sc_write(s, RXM0SIDH, 0xFF);
+        sc_write(s, RXF1SIDH, 0x01);
+        sc_write(s, RXF0SIDH, (uint8_t)i);
+        sc_mode(s, MODE_NORMAL);
+        sc_std(s, 0x000, i == 0 ? RX_IN_RXB0 : RX_IN_RXB1);
+    }
+    expect_entries("answer and set differ", 2,
+                   (const uint8_t[]){
+                       0, 0, 0, 14, 0, 0, 0, 0, 0x00, 0x00,
+                       0, 0, 0, 21, 0, 1, 0, 2, 0x3D, 0x3C,
+                   });
+}
+
+/* In flight in the first log alone: the frame is refused there. */
+static void refusal_and_set(void)
+{
+    for (unsigned i = 0; i < 2; i++) {
+        struct script *s = i == 0 ? &first : &second;
+        sc_mode(s, MODE_NORMAL);
+        sc_rts(s, i == 0 ? 1 : 0);
+        sc_idle(s, i == 0 ? 0 : NO_FLIGHT);
+        if (i == 0)
+            sc_refused(s, REFUSED_IN_FLIGHT, KIND_FRAME, 0);
+        else
+            sc_std(s, 0, RX_IN_RXB0);
+    }
+    expect_entries("refusal, answer and set differ", 3,
+                   (const uint8_t[]){
+                       0, 0, 0, 7,  0, 0, 0, 0, 0x00, 0x00,
+                       0, 0, 0, 9,  0, 0, 0, 3, 0x00, 0x00,
+                       0, 0, 0, 10, 3, 0, 0, 1, 0x00, 0x3F,
+                   });
 }
 
 /* ---- what follows from a difference ---- */
@@ -231,8 +377,8 @@ static void later_answers(void)
     }
     expect_entries("a difference that changes later answers", 2,
                    (const uint8_t[]){
-                       0, 0, 0, 10, 0, 0, 0, 0,
-                       0, 0, 0, 13, 0, 1, 0, 3,
+                       0, 0, 0, 10, 0, 0, 0, 0, 0, 0,
+                       0, 0, 0, 13, 0, 1, 0, 3, 0x3F, 0x3F,
                    });
 }
 
@@ -247,12 +393,12 @@ static void inserted(void)
     sc_idle(&second, 3);
     expect_entries("one record inserted", 6,
                    (const uint8_t[]){
-                       0, 0, 0, 1, 0, 0x00, 0, 3,
-                       0, 0, 0, 2, 0, 0x00, 0, 0,
-                       0, 0, 0, 3, 0, 0x00, 0, 0,
-                       0, 0, 0, 4, 0, 0x80, 0, 0,
-                       0, 0, 0, 5, 0, 0x00, 0, 0x80,
-                       0, 0, 0, 6, 0, 3, 0, 0,
+                       0, 0, 0, 1, 0, 0x00, 0, 3, 0, 0,
+                       0, 0, 0, 2, 0, 0x00, 0, 0, 0, 0,
+                       0, 0, 0, 3, 0, 0x00, 0, 0, 0, 0,
+                       0, 0, 0, 4, 0, 0x80, 0, 0, 0, 0,
+                       0, 0, 0, 5, 0, 0x00, 0, 0x80, 0, 0,
+                       0, 0, 0, 6, 0, 3, 0, 0, 0, 0,
                    });
 }
 
@@ -275,14 +421,14 @@ static void high_numbers(void)
 {
     static const uint16_t few[] = {1, 255, 256, 257, 258};
     static const uint8_t few_entries[] = {
-        0, 0, 0, 1, 5, 0, 2, 0, 0, 0, 0, 255, 5, 0, 2, 0,
-        0, 0, 1, 0, 5, 0, 2, 0, 0, 0, 1, 1,   5, 0, 2, 0,
-        0, 0, 1, 2, 5, 0, 2, 0,
+        0, 0, 0, 1, 5, 0, 2, 0, 0, 0, 0, 0, 0, 255, 5, 0, 2, 0, 0, 0,
+        0, 0, 1, 0, 5, 0, 2, 0, 0, 0, 0, 0, 1, 1,   5, 0, 2, 0, 0, 0,
+        0, 0, 1, 2, 5, 0, 2, 0, 0, 0,
     };
     static const uint16_t many[] = {32767, 32768, 65280, 65535};
     static const uint8_t many_entries[] = {
-        0, 0, 127, 255, 5, 0, 2, 0, 0, 0, 128, 0,   5, 0, 2, 0,
-        0, 0, 255, 0,   5, 0, 2, 0, 0, 0, 255, 255, 5, 0, 2, 0,
+        0, 0, 127, 255, 5, 0, 2, 0, 0, 0, 0, 0, 128, 0,   5, 0, 2, 0, 0, 0,
+        0, 0, 255, 0,   5, 0, 2, 0, 0, 0, 0, 0, 255, 255, 5, 0, 2, 0, 0, 0,
     };
     long_pair("numbers around 256", 258, few, 5, few_entries);
     long_pair("numbers up to 65,535", LOG_RECORDS_MAX, many, 4, many_entries);
@@ -292,7 +438,7 @@ static void high_numbers(void)
 
 static void leftovers(void)
 {
-    static const uint8_t entry[] = {0, 0, 0, 2, 0, 3, 2, 0};
+    static const uint8_t entry[] = {0, 0, 0, 2, 0, 3, 2, 0, 0, 0};
     sc_read(&first, CANCTRL, 0x87);
     sc_read(&second, CANCTRL, 0x87);
     sc_idle(&second, 3);
@@ -322,10 +468,12 @@ static const struct {
     {0, 0, 40, 0, NEITHER, 0},
     {0, 5 * RECORD_BYTES, 0, 0, SECOND, 5 * RECORD_BYTES},
     {5 * RECORD_BYTES, 0, 0, 0, FIRST, 5 * RECORD_BYTES},
-    {10 * RECORD_BYTES, 12 * RECORD_BYTES, 80, 10, SECOND, 2 * RECORD_BYTES},
-    {12 * RECORD_BYTES, 10 * RECORD_BYTES, 80, 10, FIRST, 2 * RECORD_BYTES},
-    {MOST * RECORD_BYTES, 10 * RECORD_BYTES, 80, 10, FIRST, (MOST - 10) * RECORD_BYTES},
-    {10 * RECORD_BYTES, MOST * RECORD_BYTES, 80, 10, SECOND, (MOST - 10) * RECORD_BYTES},
+    {10 * RECORD_BYTES, 12 * RECORD_BYTES, 10 * ENTRY_BYTES, 10, SECOND, 2 * RECORD_BYTES},
+    {12 * RECORD_BYTES, 10 * RECORD_BYTES, 10 * ENTRY_BYTES, 10, FIRST, 2 * RECORD_BYTES},
+    {MOST * RECORD_BYTES, 10 * RECORD_BYTES, 10 * ENTRY_BYTES, 10, FIRST,
+     (MOST - 10) * RECORD_BYTES},
+    {10 * RECORD_BYTES, MOST * RECORD_BYTES, 10 * ENTRY_BYTES, 10, SECOND,
+     (MOST - 10) * RECORD_BYTES},
     {MOST * RECORD_BYTES, 0, 0, 0, FIRST, MOST * RECORD_BYTES},
     {0, MOST * RECORD_BYTES, 0, 0, SECOND, MOST * RECORD_BYTES},
     {MOST * RECORD_BYTES, MOST * RECORD_BYTES, MOST * ENTRY_BYTES, MOST, NEITHER, 0},
@@ -335,34 +483,35 @@ static const struct {
     size_t first_len, second_len, entries_len;
     int64_t result;
 } refused[] = {
-    {1, 10 * RECORD_BYTES, 80, -6},
-    {10 * RECORD_BYTES, 15, 80, -6},
-    {10 * RECORD_BYTES + 1, 10 * RECORD_BYTES, 80, -6},
-    {10 * RECORD_BYTES, 10 * RECORD_BYTES + 1, 88, -6},
-    {17, 17, 80, -6},
-    {MOST * RECORD_BYTES + 15, 10 * RECORD_BYTES, 80, -6},
-    {10 * RECORD_BYTES, MOST * RECORD_BYTES + 15, 80, -6},
-    {OVER * RECORD_BYTES, 10 * RECORD_BYTES, 80, -8},
-    {10 * RECORD_BYTES, OVER * RECORD_BYTES, 80, -8},
+    {1, 10 * RECORD_BYTES, 10 * ENTRY_BYTES, -6},
+    {10 * RECORD_BYTES, 15, 10 * ENTRY_BYTES, -6},
+    {10 * RECORD_BYTES + 1, 10 * RECORD_BYTES, 10 * ENTRY_BYTES, -6},
+    {10 * RECORD_BYTES, 10 * RECORD_BYTES + 1, 11 * ENTRY_BYTES, -6},
+    {17, 17, 10 * ENTRY_BYTES, -6},
+    {MOST * RECORD_BYTES + 15, 10 * RECORD_BYTES, 10 * ENTRY_BYTES, -6},
+    {10 * RECORD_BYTES, MOST * RECORD_BYTES + 15, 10 * ENTRY_BYTES, -6},
+    {OVER * RECORD_BYTES, 10 * RECORD_BYTES, 10 * ENTRY_BYTES, -8},
+    {10 * RECORD_BYTES, OVER * RECORD_BYTES, 10 * ENTRY_BYTES, -8},
     {OVER * RECORD_BYTES, OVER * RECORD_BYTES, OVER * ENTRY_BYTES, -8},
     {MOST * RECORD_BYTES, OVER * RECORD_BYTES, MOST * ENTRY_BYTES, -8},
     {OVER * RECORD_BYTES, MOST * RECORD_BYTES, MOST * ENTRY_BYTES, -8},
     /* Two apply: the first log decides before the second, in either 6 before 8. */
-    {OVER * RECORD_BYTES, 1, 80, -8},
-    {1, OVER * RECORD_BYTES, 80, -6},
-    {OVER * RECORD_BYTES + 1, 10 * RECORD_BYTES, 80, -6},
-    {OVER * RECORD_BYTES + 1, OVER * RECORD_BYTES, 80, -6},
-    {10 * RECORD_BYTES, OVER * RECORD_BYTES + 1, 80, -6},
-    {OVER * RECORD_BYTES, OVER * RECORD_BYTES + 1, 80, -8},
+    {OVER * RECORD_BYTES, 1, 10 * ENTRY_BYTES, -8},
+    {1, OVER * RECORD_BYTES, 10 * ENTRY_BYTES, -6},
+    {OVER * RECORD_BYTES + 1, 10 * RECORD_BYTES, 10 * ENTRY_BYTES, -6},
+    {OVER * RECORD_BYTES + 1, OVER * RECORD_BYTES, 10 * ENTRY_BYTES, -6},
+    {10 * RECORD_BYTES, OVER * RECORD_BYTES + 1, 10 * ENTRY_BYTES, -6},
+    {OVER * RECORD_BYTES, OVER * RECORD_BYTES + 1, 10 * ENTRY_BYTES, -8},
     /* The room decides last. */
     {1, 10 * RECORD_BYTES, 0, -6},
     {10 * RECORD_BYTES, 1, 0, -6},
     {OVER * RECORD_BYTES, 10 * RECORD_BYTES, 0, -8},
     {10 * RECORD_BYTES, OVER * RECORD_BYTES, 0, -8},
     {10 * RECORD_BYTES, 10 * RECORD_BYTES, 0, -7},
-    {10 * RECORD_BYTES, 12 * RECORD_BYTES, 79, -7},
-    {12 * RECORD_BYTES, 10 * RECORD_BYTES, 72, -7},
+    {10 * RECORD_BYTES, 12 * RECORD_BYTES, 10 * ENTRY_BYTES - 1, -7},
+    {12 * RECORD_BYTES, 10 * RECORD_BYTES, 9 * ENTRY_BYTES, -7},
     {MOST * RECORD_BYTES, MOST * RECORD_BYTES, MOST * ENTRY_BYTES - 1, -7},
+    {MOST * RECORD_BYTES, MOST * RECORD_BYTES, MOST * 8, -7},
 };
 
 /* Select low again and again, refused from the second on, against bus idle: every
@@ -411,6 +560,12 @@ void pair_cases(pair_check *check)
     record_and_refusal();
     record_and_answer();
     all_three();
+    set_alone();
+    set_of_own_frame_alone();
+    each_bit_of_the_set();
+    record_and_set();
+    answer_and_set();
+    refusal_and_set();
     later_answers();
     inserted();
     high_numbers();

@@ -4,7 +4,8 @@
 #include "registers.h"
 
 static const struct case_group *const groups[] = {&marked_cases, &spi_cases, &reset_cases,
-                                                  &bus_cases, &length_cases, &match_cases};
+                                                  &bus_cases, &length_cases, &match_cases,
+                                                  &set_cases};
 
 size_t case_count(void)
 {

@@ -13,6 +13,9 @@
 
 enum place { FRONT, STAYS, BEHIND };
 
+/* Every filter matches; every one but RXF1, by but_rxf1. */
+enum { ALL = 0x3F, BUT_RXF1 = 0x3D };
+
 static tidied_check *check_list;
 
 __attribute__((format(printf, 2, 3))) static void start(struct tidied_list *t, const char *format,
@@ -39,6 +42,13 @@ static struct script *event(struct tidied_list *t)
 {
     t->from = t->s.count;
     return &t->s;
+}
+
+/* The event is a frame with this set. */
+static void hear(struct tidied_list *t, uint8_t answer, uint8_t set)
+{
+    sc_std(event(t), 0x123, answer);
+    sc_set(&t->s, set);
 }
 
 static void high(struct tidied_list *t, enum place place)
@@ -154,7 +164,7 @@ static void one_length(struct tidied_list *t, size_t b, unsigned bytes, unsigned
     low(t);
     for (unsigned i = 0; i <= bytes + 1; i++) {
         if (i == before)
-            sc_std(event(t), 0x125, RX_LOST);
+            hear(t, RX_LOST, ALL);
         if (i == 0)
             sc_xfer(&t->s, buffers[b].code, 0);
         else if (i <= bytes)
@@ -185,7 +195,7 @@ static void one_read_rx(struct tidied_list *t, uint8_t code, uint8_t flags)
     low(t);
     sc_xfer(&t->s, code, 0);
     sc_xfer(&t->s, 0, 0);
-    sc_std(event(t), 0x123, flags & RX0IF ? RX_LOST : RX_IN_RXB0);
+    hear(t, flags & RX0IF ? RX_LOST : RX_IN_RXB0, ALL);
     high(t, flags & own ? FRONT : STAYS);
 }
 
@@ -199,6 +209,7 @@ static void one_late_flag(struct tidied_list *t, uint8_t code)
     sc_write(&t->s, CANINTF, rxb1 ? RX0IF : RX1IF);
     low(t);
     sc_frame(event(t), 0, 0x123, 1, "\x5A", rxb1 ? RX_IN_RXB1 : RX_IN_RXB0);
+    sc_set(&t->s, ALL);
     sc_xfer(&t->s, code, 0);
     sc_xfer(&t->s, 0, code & 2 ? 0x5A : 0x24);
     high(t, STAYS);
@@ -253,6 +264,93 @@ static void load_tx_busy(struct tidied_list *t)
             }
 }
 
+/* ---- events with a set ---- */
+
+static void but_rxf1(struct script *s)
+{
+    sc_write(s, RXM0SIDH, 0x80);
+    sc_write(s, RXF1SIDH, 0x80);
+}
+
+/* Exchanges of the whole command, and its reply before and after the frame's end. */
+static const struct {
+    uint8_t code;
+    unsigned last;
+    uint8_t before, after;
+} around_end[] = {
+    {SPI_RESET, 1, 0, 0},
+    {SPI_READ, 3, 0, TX0IF | RX0IF},
+    {SPI_READ_STATUS, 2, 0x04, 0x09},
+    {SPI_RX_STATUS, 2, 0, 0x40},
+    {SPI_RTS, 1, 0, 0},
+    {0xFF, 1, 0, 0},
+};
+
+/* A RESET takes the flight, and then there is no frame and no set. */
+static void own_frame_ends(struct tidied_list *t, bool in_flight)
+{
+    if (in_flight)
+        sc_end(event(t), END_SENT, RX_IN_RXB0);
+    else
+        sc_refused(event(t), REFUSED_NO_FLIGHT, KIND_FRAME_ENDS, END_SENT);
+    sc_set(&t->s, in_flight ? BUT_RXF1 : 0);
+}
+
+static void one_own_end(struct tidied_list *t, size_t c, unsigned exchanges, unsigned before)
+{
+    uint8_t code = around_end[c].code;
+    unsigned last = around_end[c].last;
+    start(t, "code %02Xh, %u exchanges, own frame ends after %u", code, exchanges, before);
+    but_rxf1(&t->s);
+    sc_mode(&t->s, MODE_LOOPBACK);
+    sc_rts(&t->s, 1);
+    sc_idle(&t->s, 0);
+    low(t);
+    for (unsigned i = 0; i <= exchanges; i++) {
+        bool replies = i + 1 == last || (i + 1 > last && code != SPI_READ);
+        uint8_t reply = before <= i ? around_end[c].after : around_end[c].before;
+        if (i == before)
+            own_frame_ends(t, code != SPI_RESET || before == 0);
+        if (i < exchanges)
+            sc_xfer(&t->s, i == 0 ? code : CANINTF, replies ? reply : 0);
+    }
+    high(t, command_place(code, last, exchanges, before));
+}
+
+static void own_ends(struct tidied_list *t)
+{
+    for (size_t c = 0; c < sizeof around_end / sizeof *around_end; c++)
+        for (unsigned exchanges = 0; exchanges <= around_end[c].last + 1; exchanges++)
+            for (unsigned before = 0; before <= exchanges; before++)
+                one_own_end(t, c, exchanges, before);
+}
+
+/* WRITE of CANCTRL: the frame is heard in one mode or the other. */
+static void one_mode_write(struct tidied_list *t, uint8_t from, uint8_t to, unsigned before)
+{
+    uint8_t mode = before < 3 ? from : to;
+    bool heard = mode == MODE_NORMAL || mode == MODE_LISTEN_ONLY;
+    start(t, "from mode %u to mode %u, frame after %u", from, to, before);
+    but_rxf1(&t->s);
+    sc_mode(&t->s, from);
+    low(t);
+    for (unsigned i = 0; i <= 3; i++) {
+        if (i == before)
+            hear(t, heard ? RX_IN_RXB0 : RX_NOT_LISTENING, heard ? BUT_RXF1 : 0);
+        if (i < 3)
+            sc_xfer(&t->s, i == 0 ? SPI_WRITE : i == 1 ? CANCTRL : (uint8_t)(to << 5 | 7), 0);
+    }
+    high(t, before < 3 ? FRONT : BEHIND);
+}
+
+static void mode_writes(struct tidied_list *t)
+{
+    for (uint8_t from = 0; from < MODES; from++)
+        for (uint8_t to = 0; to < MODES; to++)
+            for (unsigned before = 0; before <= 3; before++)
+                one_mode_write(t, from, to, before);
+}
+
 void tidied_lists(tidied_check *check)
 {
     struct tidied_list t = {0};
@@ -262,5 +360,7 @@ void tidied_lists(tidied_check *check)
     buffer_lengths(&t);
     read_rx_flags(&t);
     load_tx_busy(&t);
+    own_ends(&t);
+    mode_writes(&t);
     script_free(&t.s);
 }

@@ -600,11 +600,13 @@ struct model cover_log(struct cover *c, const uint8_t *log, size_t records)
     model_power_on(&m);
     forget_mode(c);
     c->reset_flight = false;
+    c->set_before = 0;
     memset(c->in_hand, 0, sizeof c->in_hand);
     for (size_t i = 0; i < records; i++) {
         struct model before = m;
-        uint8_t refusal, answer;
-        model_step(&m, log + RECORD_BYTES * i, &refusal, &answer);
+        uint8_t refusal, answer, set;
+        model_step_set(&m, log + RECORD_BYTES * i, &refusal, &answer, &set);
+        cover_set(c, &before, log + RECORD_BYTES * i, refusal, answer, set);
         cover_step(c, &before, log + RECORD_BYTES * i, refusal, answer, &m);
     }
     hit_if(c, m.selected, COVER_ENDS_OPEN);

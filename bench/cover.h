@@ -161,7 +161,65 @@
     X(MATCH_MASK_2, "mask 0 instead of 1 for RXF2")                     \
     X(MATCH_MASK_3, "mask 0 instead of 1 for RXF3")                     \
     X(MATCH_MASK_4, "mask 0 instead of 1 for RXF4")                     \
-    X(MATCH_MASK_5, "mask 0 instead of 1 for RXF5")
+    X(MATCH_MASK_5, "mask 0 instead of 1 for RXF5")                     \
+    X(SET_PAST_LOWEST, "filters past the lowest")                       \
+    X(SET_PAST_LOWEST_0, "RXF1 beside RXF0")                            \
+    X(SET_PAST_LOWEST_1, "RXB1's filters past their lowest")            \
+    X(SET_ALONE_0, "RXF0 alone")                                        \
+    X(SET_ALONE_1, "RXF1 alone")                                        \
+    X(SET_ALONE_2, "RXF2 alone")                                        \
+    X(SET_ALONE_3, "RXF3 alone")                                        \
+    X(SET_ALONE_4, "RXF4 alone")                                        \
+    X(SET_ALONE_5, "RXF5 alone")                                        \
+    X(SET_IN_RXB0, "RXB1's filters, stored in RXB0")                    \
+    X(SET_IN_RXB1, "RXB1's filters, stored in RXB1 by them")            \
+    X(SET_ROLLED_0, "RXB0's filters, rolled over")                      \
+    X(SET_ROLLED_1, "RXB1's filters, rolled over")                      \
+    X(SET_LOST_0, "RXB0's filters, lost with BUKT clear")               \
+    X(SET_LOST_0_OF_RXB1, "RXB1's filters, lost at RXB0, BUKT clear")   \
+    X(SET_LOST_BUKT, "RXB0's filters, lost with BUKT set")              \
+    X(SET_LOST_BUKT_OF_RXB1, "RXB1's filters, lost at RXB0, BUKT set")  \
+    X(SET_LOST_1, "RXB1's filters, lost at RXB1 by them")               \
+    X(SET_RXM_00_0, "RXB0's filters under RXM 00")                      \
+    X(SET_RXM_00_1, "RXB1's filters under RXM 00")                      \
+    X(SET_RXM_01_0, "RXB0's filters under RXM 01")                      \
+    X(SET_RXM_01_1, "RXB1's filters under RXM 01")                      \
+    X(SET_RXM_10_0, "RXB0's filters under RXM 10")                      \
+    X(SET_RXM_10_1, "RXB1's filters under RXM 10")                      \
+    X(SET_RXM_11_0, "RXB0's filters under RXM 11")                      \
+    X(SET_RXM_11_1, "RXB1's filters under RXM 11")                      \
+    X(SET_RXM_BOTH, "filters under RXM 11 of both buffers")             \
+    X(SET_RXM_HIT_0, "no RXF0, though RXB0 has hit 0 by RXM 11")        \
+    X(SET_RXM_EMPTY_0, "no filter, in RXB0 by RXM 11")                  \
+    X(SET_RXM_EMPTY_1, "no filter, in RXB1 by RXM 11")                  \
+    X(SET_RXM_EMPTY_LOST, "no filter, lost under RXM 11")               \
+    X(SET_RXM_OWN, "filters under an RXM 11, own frame")                \
+    X(SET_OWN_PAST_LOWEST, "filters past the lowest, own frame")        \
+    X(SET_OWN_IN_RXB0, "filters, own frame in RXB0")                    \
+    X(SET_OWN_IN_RXB1, "filters, own frame in RXB1")                    \
+    X(SET_OWN_LOST, "filters, own frame lost")                          \
+    X(SET_OWN_ROLLED, "filters, own frame rolled over")                 \
+    X(SET_OWN_BUFFER, "filters, by the TX buffer in flight")            \
+    X(SET_MASK_0, "RXF0 by mask 0 and not 1")                           \
+    X(SET_MASK_1, "RXF1 by mask 0 and not 1")                           \
+    X(SET_MASK_2, "RXF2 by mask 1 and not 0")                           \
+    X(SET_MASK_3, "RXF3 by mask 1 and not 0")                           \
+    X(SET_MASK_4, "RXF4 by mask 1 and not 0")                           \
+    X(SET_MASK_5, "RXF5 by mask 1 and not 0")                           \
+    X(SET_CONFIGURATION, "none in Configuration")                       \
+    X(SET_LOOPBACK, "none for a frame of the bus in Loopback")          \
+    X(SET_SLEEP, "none in Sleep")                                       \
+    X(SET_BUS_OFF, "none in bus-off")                                   \
+    X(SET_WOKE, "none on waking")                                       \
+    X(SET_REFUSED_FIELD, "none with refusal 2")                         \
+    X(SET_REFUSED_IN_FLIGHT, "none with refusal 3")                     \
+    X(SET_END_SENT, "none for a frame sent in Normal")                  \
+    X(SET_END_LOST, "none for an own frame that lost")                  \
+    X(SET_END_ERROR, "none for an own frame in error")                  \
+    X(SET_END_REFUSED, "none for a refused end in Loopback")            \
+    X(SET_REPLY, "none for an exchange that replies")                   \
+    X(SET_IDLE, "none for bus idle that answers 1 to 3")                \
+    X(SET_GONE, "none for the record after one with a set")
 
 enum cover_point {
 #define COVER_ENUM(name, text) COVER_##name,
@@ -189,6 +247,8 @@ enum cover_class {
 
 extern const char *const cover_class_name[COVER_CLASSES];
 
+enum { COVER_SETS = 1 << MATCH_FILTERS };
+
 /* RESET by address, CANCTRL at 0Fh alone. The bits that a log can make other
  * than RESET does; bits of the counters are not told apart. */
 enum { COVER_ADDRESSES = 128 };
@@ -211,6 +271,13 @@ struct cover {
      * which it does not for this one bit. */
     unsigned long one_bit[MATCH_FILTERS][MATCH_BITS];
     unsigned long matched_otherwise; /* not as match.h says */
+    unsigned long set_otherwise;     /* the same of sets */
+    unsigned long sets[COVER_SETS];  /* frames heard, by their set */
+    /* Frames heard whose set lacks this filter for one bit alone, which is EXIDE or one
+     * that its mask has: standard or extended, byte of the filter. */
+    unsigned long set_exide[MATCH_FILTERS][2];
+    unsigned long set_byte[MATCH_FILTERS][2][4];
+    uint8_t set_before; /* of the last record */
     unsigned long resets;
     unsigned long reset_bit[COVER_ADDRESSES][8]; /* met other than RESET would make it */
     unsigned long reset_read[COVER_ADDRESSES];   /* such a byte read while still in hand */
@@ -231,6 +298,10 @@ extern const char *const cover_text[COVER_POINTS];
 /* A frame that was listened to: which bits and masks decided (cover_match.c). */
 void cover_match(struct cover *c, const struct model *before, const uint8_t *record,
                  uint8_t answer);
+
+/* Any record: what its set depended on (cover_set.c). */
+void cover_set(struct cover *c, const struct model *before, const uint8_t *record,
+               uint8_t refusal, uint8_t answer, uint8_t set);
 
 /* One step: chips before and after, what the record gave. */
 void cover_step(struct cover *c, const struct model *before, const uint8_t *record,

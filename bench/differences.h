@@ -8,7 +8,7 @@
 #include <stddef.h>
 #include <stdint.h>
 
-enum { ENTRY_BYTES = 8 };
+enum { ENTRY_BYTES = 10 };
 
 /* A part of a log, where that log lies. */
 struct log_part {
@@ -18,10 +18,10 @@ struct log_part {
 
 /*
  * An entry for each record number, from 1, at which the record's bytes, its
- * refusal or its answer differ, as far as both logs go. It is the number in
- * four bytes, high byte first, then refusal and answer in the first log, then
- * in the second. The number of entries is returned and no byte past them
- * changes.
+ * refusal, its answer or its set differ, as far as both logs go. It is the number
+ * in four bytes, high byte first, then refusal and answer in the first log, then
+ * in the second, then the set in the first and in the second. The number of
+ * entries is returned and no byte past them changes.
  *
  * Minus 6 or 8 for the first log, then for the second, then minus 7 if the
  * room is too short for all entries; then no byte of entries changes.

@@ -8,10 +8,21 @@
 
 #include "model.h"
 
+/* A frame's line shows its set too, also where the frame is refused. */
+static void print_line(struct model *m, unsigned long number, const uint8_t *record)
+{
+    uint8_t refusal, answer, set;
+    model_step_set(m, record, &refusal, &answer, &set);
+    printf("%lu %u %u", number, refusal, answer);
+    if (record[0] == KIND_FRAME)
+        printf(" %u", set);
+    printf("\n");
+}
+
 static void print_lines(FILE *in)
 {
     struct model m;
-    uint8_t record[RECORD_BYTES], refusal, answer;
+    uint8_t record[RECORD_BYTES];
     size_t got;
     model_power_on(&m);
     for (unsigned long number = 1; (got = fread(record, 1, sizeof record, in)) > 0; number++) {
@@ -23,8 +34,7 @@ static void print_lines(FILE *in)
             printf("%lu %d 0\n", number, REFUSED_TOO_LONG);
             return;
         }
-        model_step(&m, record, &refusal, &answer);
-        printf("%lu %u %u\n", number, refusal, answer);
+        print_line(&m, number, record);
     }
 }
 

@@ -124,6 +124,23 @@ unsigned match_set(const struct model *m, const struct match_frame *f)
     return set;
 }
 
+/* By the record, taken, a frame comes to the filters. */
+static bool is_received(const struct model *m, const uint8_t *record)
+{
+    bool listens = m->mode == MODE_NORMAL || m->mode == MODE_LISTEN_ONLY;
+    if (record[0] == KIND_FRAME)
+        return listens && m->tec < TEC_BUS_OFF;
+    return record[0] == KIND_FRAME_ENDS && record[1] == END_SENT && m->mode == MODE_LOOPBACK;
+}
+
+unsigned match_set_of_step(const struct model *m, const uint8_t *record, uint8_t refusal)
+{
+    if (refusal != REFUSED_NOT || !is_received(m, record))
+        return 0;
+    struct match_frame f = record[0] == KIND_FRAME ? match_heard(record) : match_own(m, m->flight);
+    return match_set(m, &f);
+}
+
 uint8_t match_answer(const struct model *m, const uint8_t *record, const struct match_frame *f,
                      unsigned set)
 {

@@ -42,6 +42,9 @@ uint32_t match_differs(uint32_t filter, uint32_t mask, const struct match_frame 
 /* All filters that match, bit n for filter n. */
 unsigned match_set(const struct model *m, const struct match_frame *f);
 
+/* The set of a record that this chip meets, with the refusal that it got. */
+unsigned match_set_of_step(const struct model *m, const uint8_t *record, uint8_t refusal);
+
 /* The model's answer to the record of this frame, heard or sent, had exactly these
  * filters matched. */
 uint8_t match_answer(const struct model *m, const uint8_t *record, const struct match_frame *f,

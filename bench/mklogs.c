@@ -5,12 +5,15 @@
  */
 #include <stdio.h>
 #include <stdlib.h>
+#include <string.h>
 
 #include "cases.h"
 #include "gen.h"
 #include "model.h"
 #include "registers.h"
 #include "script.h"
+
+enum { MOST = LOG_RECORDS_MAX, BYTES = (MOST + 2) * RECORD_BYTES };
 
 static const char *directory;
 
@@ -63,9 +66,64 @@ static void write_five(void)
     script_free(&s);
 }
 
+/* Frames with and without a set, and records that are none; their lines are in sets.want. */
+static void write_set_records(struct script *s)
+{
+    static const uint8_t damaged[RECORD_BYTES] = {KIND_FRAME, 0, LENGTH_CODE_MAX + 1};
+    static const uint8_t damaged_exchange[RECORD_BYTES] = {KIND_EXCHANGE, KIND_FRAME, KIND_FRAME};
+    sc_write(s, RXM1SIDH, 0xFF);
+    sc_mode(s, MODE_NORMAL);
+    sc_std(s, 0x123, RX_IN_RXB0);
+    sc_std(s, 0x001, RX_LOST);
+    sc_frame(s, FRAME_EXTENDED, 0x123, 0, NULL, RX_UNMATCHED);
+    sc_raw(s, damaged, REFUSED_FIELD, 0);
+    sc_rts(s, 1);
+    sc_idle(s, 0);
+    sc_refused(s, REFUSED_IN_FLIGHT, KIND_FRAME, 0);
+    sc_end(s, END_SENT, 0);
+    sc_mode(s, MODE_LOOPBACK);
+    sc_std(s, 0x001, RX_NOT_LISTENING);
+    sc_rts(s, 1);
+    sc_idle(s, 0);
+    sc_end(s, END_SENT, RX_LOST);
+    sc_write(s, CANINTE, WAKIF);
+    sc_mode(s, MODE_SLEEP);
+    sc_std(s, 0x001, RX_WOKE);
+    sc_std(s, 0x001, RX_LOST);
+    sc_refused(s, REFUSED_FIELD, KINDS, KIND_FRAME);
+    sc_raw(s, damaged_exchange, REFUSED_FIELD, 0);
+}
+
+/* A frame cut short is the last record. */
+static void write_sets(void)
+{
+    struct script s;
+    script_init(&s);
+    write_set_records(&s);
+    sc_std(&s, 0x001, RX_LOST);
+    write_file("sets.log", s.records, RECORD_BYTES * s.count - 1);
+    script_free(&s);
+}
+
+/* Logs of whole and of cut records, up to one record too many. */
+static void write_lengths(uint8_t *log)
+{
+    static const uint8_t frame[RECORD_BYTES] = {KIND_FRAME};
+    write_file("empty.log", log, 0);
+    write_file("stub.log", log, 7);
+    write_file("ragged.log", log, 1234 * RECORD_BYTES + 5);
+    write_file("long.log", log, 40000 * RECORD_BYTES);
+    write_file("full.log", log, MOST * RECORD_BYTES);
+    write_file("full_ragged.log", log, MOST * RECORD_BYTES + 15);
+    write_file("over.log", log, (MOST + 1) * RECORD_BYTES);
+    write_file("over_ragged.log", log, (MOST + 1) * RECORD_BYTES + 1);
+    memcpy(log + MOST * RECORD_BYTES, frame, RECORD_BYTES);
+    write_file("full_frame_ragged.log", log, MOST * RECORD_BYTES + 15);
+    write_file("over_frame.log", log, (MOST + 1) * RECORD_BYTES);
+}
+
 int main(int argc, char **argv)
 {
-    enum { MOST = LOG_RECORDS_MAX, BYTES = (MOST + 2) * RECORD_BYTES };
     uint8_t *log = malloc(BYTES);
     if (argc < 2 || !log) {
         fprintf(stderr, "usage: mklogs directory [seed]\n");
@@ -75,19 +133,15 @@ int main(int argc, char **argv)
     uint64_t seed = argc > 2 ? strtoull(argv[2], NULL, 0) : 2515;
 
     write_five();
-    size_t before_match = case_count() - match_cases.count; /* with these a log is too long */
+    write_sets();
+    size_t at_set = case_count() - set_cases.count; /* in one log they would be too long */
+    size_t at_match = at_set - match_cases.count;
     write_cases("marked.log", 0, marked_cases.count, seed, 1000);
-    write_cases("cases.log", 0, before_match, seed + 1, 2000);
-    write_cases("match.log", before_match, case_count(), seed + 4, 2000);
+    write_cases("cases.log", 0, at_match, seed + 1, 2000);
+    write_cases("match.log", at_match, at_set, seed + 4, 2000);
+    write_cases("set_cases.log", at_set, case_count(), seed + 5, 2000);
     gen_log(GEN_MIXED, seed + 2, log, MOST + 2);
-    write_file("empty.log", log, 0);
-    write_file("stub.log", log, 7);
-    write_file("ragged.log", log, 1234 * RECORD_BYTES + 5);
-    write_file("long.log", log, 40000 * RECORD_BYTES);
-    write_file("full.log", log, MOST * RECORD_BYTES);
-    write_file("full_ragged.log", log, MOST * RECORD_BYTES + 15);
-    write_file("over.log", log, (MOST + 1) * RECORD_BYTES);
-    write_file("over_ragged.log", log, (MOST + 1) * RECORD_BYTES + 1);
+    write_lengths(log);
     gen_noise(seed + 3, log, BYTES);
     write_file("noise.log", log, 20000 * RECORD_BYTES + 9);
     free(log);

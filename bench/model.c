@@ -4,7 +4,7 @@
 
 #include "registers.h"
 
-enum { NO_HIT = 0xFF, TX_BUFFERS = 3 };
+enum { NO_HIT = 0xFF, TX_BUFFERS = 3, FILTERS = 6 };
 
 _Static_assert((int)DLC_CODE == (int)LENGTH_CODE_MAX, "DLC bits 3-0 hold every length code");
 
@@ -490,8 +490,8 @@ static void select_high(struct model *m)
 
 static bool filter_takes(const struct model *m, unsigned n, const struct frame *f)
 {
-    static const uint8_t filter_at[6] = {RXF0SIDH, RXF1SIDH, RXF2SIDH,
-                                         RXF3SIDH, RXF4SIDH, RXF5SIDH};
+    static const uint8_t filter_at[FILTERS] = {RXF0SIDH, RXF1SIDH, RXF2SIDH,
+                                               RXF3SIDH, RXF4SIDH, RXF5SIDH};
     const uint8_t *filter = &m->reg[filter_at[n]];
     const uint8_t *mask = &m->reg[n < 2 ? RXM0SIDH : RXM1SIDH];
     uint8_t sidl_bits = f->extended ? SID_LOW | EID_HIGH : SID_LOW;
@@ -512,13 +512,24 @@ static bool filter_takes(const struct model *m, unsigned n, const struct frame *
     return bytes < 2 || !((filter[RXF_EID0] ^ f->data[1]) & mask[RXF_EID0]);
 }
 
+/* All filters that match, bit n for filter n, whichever buffer is asked and whatever RXM is. */
+static uint8_t matching_filters(const struct model *m, const struct frame *f)
+{
+    unsigned set = 0;
+    for (unsigned n = 0; n < FILTERS; n++)
+        if (filter_takes(m, n, f))
+            set |= 1u << n;
+    return (uint8_t)set;
+}
+
+/* The lowest match among the filters of one buffer. */
 static unsigned first_hit(const struct model *m, uint8_t ctrl, unsigned from, unsigned past,
-                          const struct frame *f)
+                          uint8_t set)
 {
     if ((m->reg[ctrl] & RXM) == RXM)
         return 0;
     for (unsigned n = from; n < past; n++)
-        if (filter_takes(m, n, f))
+        if (set & 1u << n)
             return n;
     return NO_HIT;
 }
@@ -560,11 +571,12 @@ static uint8_t put_rxb1(struct model *m, unsigned hit, const struct frame *f)
     return RX_IN_RXB1;
 }
 
-static uint8_t receive(struct model *m, const struct frame *f)
+static uint8_t receive(struct model *m, const struct frame *f, uint8_t *set)
 {
-    unsigned hit = first_hit(m, RXB0CTRL, 0, 2, f);
+    *set = matching_filters(m, f);
+    unsigned hit = first_hit(m, RXB0CTRL, 0, 2, *set);
     if (hit == NO_HIT) {
-        hit = first_hit(m, RXB1CTRL, 2, 6, f);
+        hit = first_hit(m, RXB1CTRL, 2, 6, *set);
         return hit == NO_HIT ? RX_UNMATCHED : put_rxb1(m, hit, f);
     }
     if (!(m->reg[CANINTF] & RX0IF))
@@ -618,7 +630,7 @@ static struct frame own_frame(const struct model *m, unsigned n)
 
 /* ---- bus events ---- */
 
-static uint8_t frame_comes(struct model *m, const uint8_t *r)
+static uint8_t frame_comes(struct model *m, const uint8_t *r, uint8_t *set)
 {
     if (m->mode == MODE_SLEEP && (m->reg[CANINTE] & WAKIF)) {
         m->reg[CANINTF] |= WAKIF;
@@ -634,7 +646,7 @@ static uint8_t frame_comes(struct model *m, const uint8_t *r)
         else if (m->rec > 0)
             m->rec--;
     }
-    return receive(m, &f);
+    return receive(m, &f, set);
 }
 
 static uint8_t bus_idle(struct model *m)
@@ -652,7 +664,7 @@ static uint8_t bus_idle(struct model *m)
     return m->flight;
 }
 
-static uint8_t frame_sent(struct model *m, unsigned n)
+static uint8_t frame_sent(struct model *m, unsigned n, uint8_t *set)
 {
     *tx_ctrl(m, n) &= (uint8_t)~TXREQ;
     m->reg[CANINTF] |= (uint8_t)(TX0IF << n);
@@ -661,7 +673,7 @@ static uint8_t frame_sent(struct model *m, unsigned n)
     if (m->mode != MODE_LOOPBACK)
         return 0;
     struct frame f = own_frame(m, n);
-    return receive(m, &f);
+    return receive(m, &f, set);
 }
 
 static void frame_failed(struct model *m, unsigned n, uint8_t outcome)
@@ -681,12 +693,12 @@ static void frame_failed(struct model *m, unsigned n, uint8_t outcome)
         *ctrl |= ABTF;
 }
 
-static uint8_t own_frame_ends(struct model *m, uint8_t outcome)
+static uint8_t own_frame_ends(struct model *m, uint8_t outcome, uint8_t *set)
 {
     unsigned n = m->flight;
     m->flight = NO_FLIGHT;
     if (outcome == END_SENT)
-        return frame_sent(m, n);
+        return frame_sent(m, n, set);
     frame_failed(m, n, outcome);
     return 0;
 }
@@ -764,10 +776,11 @@ static uint8_t refuse(const struct model *m, const uint8_t *r)
     return model_bus_off(m) ? REFUSED_NOT : REFUSED_STATE; /* KIND_RECOVERY */
 }
 
-void model_step(struct model *m, const uint8_t record[RECORD_BYTES], uint8_t *refusal,
-                uint8_t *answer)
+void model_step_set(struct model *m, const uint8_t record[RECORD_BYTES], uint8_t *refusal,
+                    uint8_t *answer, uint8_t *set)
 {
     *answer = 0;
+    *set = 0;
     *refusal = refuse(m, record);
     if (*refusal != REFUSED_NOT)
         return;
@@ -783,13 +796,13 @@ void model_step(struct model *m, const uint8_t record[RECORD_BYTES], uint8_t *re
         select_high(m);
         break;
     case KIND_FRAME:
-        *answer = frame_comes(m, record);
+        *answer = frame_comes(m, record, set);
         break;
     case KIND_BUS_IDLE:
         *answer = bus_idle(m);
         break;
     case KIND_FRAME_ENDS:
-        *answer = own_frame_ends(m, record[1]);
+        *answer = own_frame_ends(m, record[1], set);
         break;
     case KIND_RECEIVE_ERROR:
         receive_error(m, record[1]);
@@ -799,6 +812,13 @@ void model_step(struct model *m, const uint8_t record[RECORD_BYTES], uint8_t *re
         break;
     }
     carry_out_request(m);
+}
+
+void model_step(struct model *m, const uint8_t record[RECORD_BYTES], uint8_t *refusal,
+                uint8_t *answer)
+{
+    uint8_t set;
+    model_step_set(m, record, refusal, answer, &set);
 }
 
 long model_run_log(const uint8_t *log, size_t log_len, uint8_t *answers, size_t answers_len)

@@ -109,6 +109,14 @@ void model_step(struct model *m, const uint8_t record[RECORD_BYTES], uint8_t *re
                 uint8_t *answer);
 
 /*
+ * The same with the record's set, bit n for filter n: all that match the frame that
+ * the chip hears, from the bus or in Loopback from itself, whatever becomes of it.
+ * It is 0 for a record by which the chip hears none.
+ */
+void model_step_set(struct model *m, const uint8_t record[RECORD_BYTES], uint8_t *refusal,
+                    uint8_t *answer, uint8_t *set);
+
+/*
  * A whole log from power-on: refusal and answer of each record go to answers,
  * the number of records is returned. A log that is ragged, too long or without
  * room for its answers gives -6, -8 or -7, asked in this order, and no byte

@@ -41,6 +41,10 @@ printf '1 0 0\n2 0 0\n3 0 0\n4 0 128\n5 0 0\n' >"$work/want"
 "$replay" "$logs/five.log" >"$work/got"
 check_run "the five-record example" $?
 
+cp "$(dirname "$0")/sets.want" "$work/want" || exit 1
+"$replay" "$logs/sets.log" >"$work/got"
+check_run "frames with their sets" $?
+
 # A log that gives nothing: no line, and a message.
 check_failure() {
     "$replay" "$2" >"$work/got" 2>"$work/message"

@@ -41,8 +41,13 @@ void sc_raw(struct script *s, const uint8_t record[16], uint8_t refusal, uint8_t
 {
     make_room(s);
     memcpy(s->records + RECORD_BYTES * s->count, record, RECORD_BYTES);
-    s->want[s->count] = (struct script_want){refusal, answer, s->file, s->line};
+    s->want[s->count] = (struct script_want){refusal, answer, SET_UNSAID, s->file, s->line};
     s->count++;
+}
+
+void sc_set(struct script *s, uint8_t set)
+{
+    s->want[s->count - 1].set = set;
 }
 
 static void accepted(struct script *s, uint8_t kind, uint8_t byte1, uint8_t answer)

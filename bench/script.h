@@ -1,6 +1,7 @@
 /*
- * Hand-written logs: records with the refusal and answer each must give, and
- * the source line that asked for it, so that a failure points at its test.
+ * Hand-written logs: records with the refusal, the answer and often the set that
+ * each must give, and the source line that asked for it, so that a failure points
+ * at its test.
  */
 #ifndef BENCH_SCRIPT_H
 #define BENCH_SCRIPT_H
@@ -8,9 +9,13 @@
 #include <stddef.h>
 #include <stdint.h>
 
+/* Of a record whose set the script leaves to match.h. */
+enum { SET_UNSAID = -1 };
+
 struct script_want {
     uint8_t refusal;
     uint8_t answer;
+    int16_t set; /* or SET_UNSAID */
     const char *file;
     int line;
 };
@@ -43,6 +48,9 @@ void sc_idle(struct script *s, uint8_t answer);
 void sc_end(struct script *s, uint8_t outcome, uint8_t answer);
 void sc_rx_error(struct script *s, uint8_t large);
 void sc_recovery(struct script *s);
+
+/* Says the set of the record before. */
+void sc_set(struct script *s, uint8_t set);
 
 /* Whole sessions, from select low to select high. */
 void sc_write(struct script *s, uint8_t address, uint8_t value);

@@ -43,19 +43,50 @@ __attribute__((format(printf, 3, 4))) static void fail(const char *file, int lin
 
 /* ---- fixed cases ---- */
 
+struct outcome {
+    uint8_t refusal, answer, set;
+};
+
+/* Lent as it must not stay: a step writes all three. */
+static struct outcome step_gives(struct model *m, const uint8_t *record)
+{
+    struct outcome o = {0xAA, 0xAA, 0xAA};
+    model_step_set(m, record, &o.refusal, &o.answer, &o.set);
+    return o;
+}
+
+static bool same_outcome(const struct outcome *a, const struct outcome *b)
+{
+    return a->refusal == b->refusal && a->answer == b->answer && a->set == b->set;
+}
+
+static unsigned sets_by_hand;
+
+/* What a script expects of the record that this chip meets. */
+static struct outcome wanted(const struct script_want *want, const struct model *before,
+                             const uint8_t *record)
+{
+    struct outcome o = {want->refusal, want->answer, (uint8_t)want->set};
+    if (want->set == SET_UNSAID)
+        o.set = (uint8_t)match_set_of_step(before, record, want->refusal);
+    else
+        sets_by_hand++;
+    return o;
+}
+
 static void check_script(const char *name, const struct script *s)
 {
     struct model m;
     model_power_on(&m);
     for (size_t i = 0; i < s->count; i++) {
-        const struct script_want *want = &s->want[i];
-        uint8_t refusal, answer;
-        model_step(&m, s->records + RECORD_BYTES * i, &refusal, &answer);
-        if (refusal == want->refusal && answer == want->answer)
+        const uint8_t *record = s->records + RECORD_BYTES * i;
+        struct outcome want = wanted(&s->want[i], &m, record), got = step_gives(&m, record);
+        if (same_outcome(&want, &got))
             continue;
-        fail(want->file, want->line,
-             "%s: record %zu: expected refusal %u answer %02Xh, got refusal %u answer %02Xh", name,
-             i + 1, want->refusal, want->answer, refusal, answer);
+        fail(s->want[i].file, s->want[i].line,
+             "%s: record %zu: expected refusal %u answer %02Xh set %02Xh, "
+             "got refusal %u answer %02Xh set %02Xh", name, i + 1, want.refusal, want.answer,
+             want.set, got.refusal, got.answer, got.set);
         return;
     }
     if (m.selected)
@@ -390,31 +421,110 @@ static struct model chip_with_any_filters(uint64_t *state)
     return m;
 }
 
-/* Frames that mostly miss a filter by one bit or none, against match.c. */
+/* A frame that mostly misses a filter by one bit or none. */
+static void aimed_record(uint8_t record[RECORD_BYTES], uint32_t filter, uint64_t dice)
+{
+    uint8_t remote = dice >> 40 & 3 ? 0 : FRAME_REMOTE, length_code = dice >> 44 & 3;
+    uint8_t extended = filter & MATCH_EXIDE ? FRAME_EXTENDED : 0;
+    match_record(record, remote | ((dice >> 50) % 16 ? extended : extended ^ FRAME_EXTENDED),
+                 length_code, dice & 64 ? filter : filter ^ 1u << dice % 32);
+}
+
+/* Against match.c. */
 static void test_unreached_matches(uint64_t state)
 {
     for (unsigned i = 0; i < 100000; i++) {
         struct model m = chip_with_any_filters(&state);
-        uint64_t dice = gen_next(&state);
-        uint8_t record[RECORD_BYTES], refusal, answer;
-        uint32_t filter = match_filter(&m, i % MATCH_FILTERS);
-        uint8_t remote = dice >> 40 & 3 ? 0 : FRAME_REMOTE, length_code = dice >> 44 & 3;
-        uint8_t extended = filter & MATCH_EXIDE ? FRAME_EXTENDED : 0;
-        match_record(record, remote | ((dice >> 50) % 16 ? extended : extended ^ FRAME_EXTENDED),
-                     length_code, dice & 64 ? filter : filter ^ 1u << dice % 32);
+        uint8_t record[RECORD_BYTES];
+        aimed_record(record, match_filter(&m, i % MATCH_FILTERS), gen_next(&state));
         struct match_frame frame = match_heard(record);
         unsigned set = match_set(&m, &frame), hit = set ? (unsigned)__builtin_ctz(set) : 0;
-        model_step(&m, record, &refusal, &answer);
+        struct outcome got = step_gives(&m, record);
         EXPECT("any filters and masks",
                set == 0  ? RX_UNMATCHED
                : hit < 2 ? RX_IN_RXB0
                          : RX_IN_RXB1,
-               answer);
+               got.answer);
+        EXPECT("their set", set, got.set);
         if (set)
             EXPECT("the lowest of them", hit, m.reg[hit < 2 ? RXB0CTRL : RXB1CTRL] & FILHIT);
         if (failures > 0)
             return;
     }
+}
+
+/* The hit that a buffer gives for a frame with this share of the set. */
+static unsigned hit_by(uint8_t ctrl, unsigned share)
+{
+    return (ctrl & RXM) == RXM ? 0 : (unsigned)__builtin_ctz(share);
+}
+
+/* Answer and hit follow from the set of a frame that is heard. */
+static const char *broken_hit(const struct model *before, const struct outcome *o,
+                              const struct model *after)
+{
+    uint8_t ctrl_0 = before->reg[RXB0CTRL], ctrl_1 = before->reg[RXB1CTRL];
+    unsigned of_rxb0 = o->set & 0x03, of_rxb1 = o->set & 0x3C;
+    bool for_rxb0 = of_rxb0 || (ctrl_0 & RXM) == RXM, for_rxb1 = of_rxb1 || (ctrl_1 & RXM) == RXM;
+    if ((o->answer == RX_UNMATCHED) != (!for_rxb0 && !for_rxb1))
+        return "a frame is unmatched where its set is empty and no RXM is 11";
+    if (o->answer == RX_IN_RXB0 &&
+        (!for_rxb0 || (after->reg[RXB0CTRL] & FILHIT0) != hit_by(ctrl_0, of_rxb0)))
+        return "RXB0's hit is the lowest of its share of the set";
+    if (o->answer == RX_IN_RXB1 &&
+        (after->reg[RXB1CTRL] & FILHIT) !=
+            (for_rxb0 ? hit_by(ctrl_0, of_rxb0) : hit_by(ctrl_1, of_rxb1)))
+        return "RXB1's hit is the lowest of its share of the set, rolled over that of RXB0's";
+    return NULL;
+}
+
+/* A set that is none by match.c, or that the chip does not go by. */
+static const char *broken_set(const struct model *before, const uint8_t *record,
+                              const struct outcome *o, const struct model *after)
+{
+    bool heard = record[0] == KIND_FRAME
+                     ? o->answer <= RX_LOST
+                     : record[0] == KIND_FRAME_ENDS && before->mode == MODE_LOOPBACK;
+    if (o->set != match_set_of_step(before, record, o->refusal))
+        return "the set is that of match.c";
+    return heard && o->refusal == REFUSED_NOT ? broken_hit(before, o, after) : NULL;
+}
+
+/* Any bytes, with few mask bits, so that filters match. */
+static struct model chip_with_any_bytes(uint8_t mode, uint64_t *state)
+{
+    struct model m = chip_in(mode);
+    for (unsigned a = 0; a < COVER_ADDRESSES; a++)
+        m.reg[a] = (uint8_t)(gen_next(state) >> 40);
+    for (unsigned a = RXM0SIDH; a < CNF3; a++)
+        m.reg[a] &= (uint8_t)(gen_next(state) & gen_next(state));
+    return m;
+}
+
+/* Frames and own frames' ends in any mode, in bus-off or not, in flight or not. */
+static void test_unreached_sets(uint64_t state)
+{
+    unsigned long met[4] = {0};
+    for (unsigned i = 0; i < 60000; i++) {
+        bool end = i / MODES % 2;
+        uint64_t dice = gen_next(&state);
+        uint8_t record[RECORD_BYTES] = {KIND_FRAME_ENDS, dice >> 20 & 3 ? END_SENT : dice & 3};
+        struct model m = chip_with_any_bytes((uint8_t)(i % MODES), &state);
+        m.tec = dice >> 30 & 3 ? 0 : TEC_BUS_OFF;
+        m.flight = end || dice >> 40 & 1 ? (uint8_t)(dice >> 50 & 3) : NO_FLIGHT;
+        if (!end)
+            aimed_record(record, match_filter(&m, i % MATCH_FILTERS), gen_next(&state));
+        struct model before = m;
+        struct outcome got = step_gives(&m, record);
+        const char *fact = broken_set(&before, record, &got, &m);
+        if (fact) {
+            fail(__FILE__, __LINE__, "chip %u: expected that %s", i, fact);
+            return;
+        }
+        met[2 * end + (got.set != 0)]++;
+    }
+    for (unsigned i = 0; i < 4; i++)
+        EXPECT("frames and ends, without a set and with one", true, met[i] > 1000);
 }
 
 /* What a chip after RESET has other than the rule says, or NULL. */
@@ -464,6 +574,7 @@ static void test_unreached(uint64_t seed)
     test_unreached_identifiers();
     test_unreached_resets(seed);
     test_unreached_matches(seed);
+    test_unreached_sets(seed);
 }
 
 /* The one definition that model and generator share, against the rule's words.
@@ -918,33 +1029,34 @@ static void test_tidied_by_hand(void)
 
 /* ---- random logs ---- */
 
-static struct model run(const uint8_t *log, size_t records, uint8_t *answers)
+static struct model run(const uint8_t *log, size_t records, struct outcome *outcomes)
 {
     struct model m;
     model_power_on(&m);
     for (size_t i = 0; i < records; i++)
-        model_step(&m, log + RECORD_BYTES * i, &answers[2 * i], &answers[2 * i + 1]);
+        outcomes[i] = step_gives(&m, log + RECORD_BYTES * i);
     return m;
 }
 
-/* Demand 3 on one log: answers agree through the map, end states are equal. */
+/* Demand 3 on one log: outcomes agree through the map, end states are equal. */
 static void check_tidied(uint64_t seed, const uint8_t *log, size_t records,
                          struct tidy_tally *tally)
 {
-    uint8_t *tidied = malloc(RECORD_BYTES * records), *as_came = malloc(2 * records),
-            *in_order = malloc(2 * records);
+    uint8_t *tidied = malloc(RECORD_BYTES * records);
+    struct outcome *as_came = malloc(records * sizeof *as_came),
+                   *in_order = malloc(records * sizeof *in_order);
     size_t *map = malloc(records * sizeof *map);
     tidy_log(log, records, tidied, map, tally);
     struct model m = run(log, records, as_came);
     struct model n = run(tidied, records, in_order);
     for (size_t i = 0; i < records; i++) {
-        size_t from = map[i];
-        if (as_came[2 * from] == in_order[2 * i] && as_came[2 * from + 1] == in_order[2 * i + 1])
+        const struct outcome *want = &as_came[map[i]], *got = &in_order[i];
+        if (same_outcome(want, got))
             continue;
         fail(__FILE__, __LINE__,
-             "seed %llu, record %zu (tidied place %zu): expected %u %u, tidied gave %u %u",
-             (unsigned long long)seed, from + 1, i + 1, as_came[2 * from], as_came[2 * from + 1],
-             in_order[2 * i], in_order[2 * i + 1]);
+             "seed %llu, record %zu (tidied place %zu): expected %u %u %u, tidied gave %u %u %u",
+             (unsigned long long)seed, map[i] + 1, i + 1, want->refusal, want->answer, want->set,
+             got->refusal, got->answer, got->set);
         break;
     }
     const char *difference = state_difference(&m, &n);
@@ -959,21 +1071,20 @@ static void check_tidied(uint64_t seed, const uint8_t *log, size_t records,
 
 /* ---- lists tidied by hand, one event in each ---- */
 
-/* Both lists give the answers worked out by hand, in their own order. */
+/* Both lists give the outcomes worked out by hand, in their own order. */
 static void check_answers(const struct tidied_list *t, bool tidied)
 {
     struct model m;
     model_power_on(&m);
     for (size_t i = 0; i < t->s.count; i++) {
         size_t from = tidied ? tidied_record(t, i) : i;
-        const struct script_want *want = &t->s.want[from];
-        uint8_t refusal, answer;
-        model_step(&m, t->s.records + RECORD_BYTES * from, &refusal, &answer);
-        if (refusal == want->refusal && answer == want->answer)
+        const uint8_t *record = t->s.records + RECORD_BYTES * from;
+        struct outcome want = wanted(&t->s.want[from], &m, record), got = step_gives(&m, record);
+        if (same_outcome(&want, &got))
             continue;
-        fail(__FILE__, __LINE__, "%s, %s: record %zu: expected %u %u, got %u %u", t->name,
-             tidied ? "tidied" : "as it came", from + 1, want->refusal, want->answer, refusal,
-             answer);
+        fail(__FILE__, __LINE__, "%s, %s: record %zu: expected %u %u %u, got %u %u %u", t->name,
+             tidied ? "tidied" : "as it came", from + 1, want.refusal, want.answer, want.set,
+             got.refusal, got.answer, got.set);
         return;
     }
 }
@@ -1060,15 +1171,17 @@ static void test_every_step(uint64_t seed)
     gen_start(&g, GEN_MIXED, seed);
     model_power_on(&m);
     for (unsigned i = 0; i < 300000; i++) {
-        uint8_t record[RECORD_BYTES], refusal, answer;
+        uint8_t record[RECORD_BYTES];
         struct model before = m;
         gen_record(&g, record);
-        model_step(&m, record, &refusal, &answer);
+        struct outcome got = step_gives(&m, record);
         const char *fact = broken_fact(&m);
-        if (!refusal && record[0] == KIND_EXCHANGE && before.open == OPEN_CODE &&
+        if (!fact)
+            fact = broken_set(&before, record, &got, &m);
+        if (!got.refusal && record[0] == KIND_EXCHANGE && before.open == OPEN_CODE &&
             record[1] == SPI_RESET && broken_reset(&before, &m))
             fact = "RESET keeps filters and message bytes and nothing else";
-        if (refusal && (answer != 0 || memcmp(&before, &m, sizeof m) != 0))
+        if (got.refusal && (got.answer != 0 || memcmp(&before, &m, sizeof m) != 0))
             fact = "a refused record answers 0 and changes nothing";
         if (!fact)
             continue;
@@ -1115,16 +1228,17 @@ static void check_speed_log(size_t (*make)(uint64_t, uint8_t *, size_t), unsigne
     for (size_t i = 0; i < RECORDS && failures == 0; i++) {
         const uint8_t *record = log + RECORD_BYTES * i;
         struct model before = m;
-        uint8_t refusal, answer;
-        model_step(&m, record, &refusal, &answer);
-        EXPECT("refusal in a speed log", REFUSED_NOT, refusal);
+        struct outcome got = step_gives(&m, record);
+        EXPECT("refusal in a speed log", REFUSED_NOT, got.refusal);
+        EXPECT("set in a speed log", record[0] == KIND_FRAME && hit < MATCH_FILTERS ? 1 << hit : 0,
+               got.set);
         if (record[0] != KIND_FRAME)
             continue;
         check_asked_filters(&before, record, hit);
-        EXPECT("matched", hit < MATCH_FILTERS, answer == RX_IN_RXB1 || answer == RX_LOST);
+        EXPECT("matched", hit < MATCH_FILTERS, got.answer == RX_IN_RXB1 || got.answer == RX_LOST);
         frames++;
         extended += record[1] & FRAME_EXTENDED;
-        stored += answer == RX_IN_RXB1;
+        stored += got.answer == RX_IN_RXB1;
     }
     EXPECT("frames counted", counted, frames);
     EXPECT("mostly frames", true, frames > RECORDS * 8 / 10);
@@ -1170,7 +1284,7 @@ static void check_resets(const struct cover *c, bool show)
     }
 }
 
-/* The sort of stored frames that was met least often. */
+/* Of many things that are demanded, the one that was met least often. */
 struct rarest {
     unsigned long count;
     char sort[64];
@@ -1200,8 +1314,8 @@ static struct rarest check_stored_length_codes(const struct cover *c, bool show)
     return rarest;
 }
 
-/* A corner of the match rule, met often enough that another seed meets it too. */
-static void demand_match(struct rarest *rarest, unsigned long count, const char *text, bool show)
+/* A corner of a rule, met often enough that another seed meets it too. */
+static void demand_corner(struct rarest *rarest, unsigned long count, const char *text, bool show)
 {
     enum { LEAST = 3 };
     if (count < LEAST)
@@ -1222,7 +1336,7 @@ static void check_filtered_length_codes(const struct cover *c, struct rarest *ra
         for (unsigned i = 0; i < COVER_CLASSES; i++) {
             char text[64];
             snprintf(text, sizeof text, "data byte %u for %s", byte, cover_class_name[i]);
-            demand_match(rarest, c->filtered[byte][i], text, show);
+            demand_corner(rarest, c->filtered[byte][i], text, show);
         }
 }
 
@@ -1238,42 +1352,93 @@ static struct rarest check_match(const struct cover *c, bool show)
             sum += c->one_bit[n][bit];
             of_filter[n] += c->one_bit[n][bit];
         }
-        demand_match(&rarest, sum, match_bit_name(bit), show);
+        demand_corner(&rarest, sum, match_bit_name(bit), show);
     }
     for (unsigned n = 0; n < MATCH_FILTERS; n++) {
         char text[64];
         snprintf(text, sizeof text, "a single bit of RXF%u", n);
-        demand_match(&rarest, of_filter[n], text, show);
+        demand_corner(&rarest, of_filter[n], text, show);
     }
     check_filtered_length_codes(c, &rarest, show);
     for (unsigned i = COVER_MATCH_EID17_16; i <= COVER_MATCH_MASK_5; i++)
-        demand_match(&rarest, c->count[i], cover_text[i], show);
+        demand_corner(&rarest, c->count[i], cover_text[i], show);
     return rarest;
 }
 
-/* Random logs are worth something only if they get everywhere. */
-static void test_coverage(uint64_t seeds, const struct tidy_tally *tally, struct rarest *rarest,
-                          struct rarest *rarest_match, bool show)
+/* Each byte of each filter keeps it out of a set, by one bit; so does EXIDE. */
+static void check_set_bytes(const struct cover *c, struct rarest *rarest, bool show)
 {
-    enum { RECORDS = 3000, LOGS = 400 };
-    struct cover c = {0};
-    uint8_t *log = malloc(RECORD_BYTES * RECORDS);
-    for (unsigned i = 0; i < LOGS; i++) {
-        gen_log(GEN_MIXED, gen_next(&seeds), log, RECORDS);
-        cover_log(&c, log, RECORDS);
+    static const char *const byte_name[4] = {"SIDH", "SIDL", "EID8", "EID0"};
+    for (unsigned i = 0; i < 2 * MATCH_FILTERS; i++) {
+        unsigned n = i / 2, extended = i % 2;
+        const char *sort = extended ? "extended" : "standard";
+        char text[64];
+        for (unsigned byte = 0; byte < 4; byte++) {
+            snprintf(text, sizeof text, "set: no RXF%u, by %s, %s", n, byte_name[byte], sort);
+            demand_corner(rarest, c->set_byte[n][extended][byte], text, show);
+        }
+        snprintf(text, sizeof text, "set: no RXF%u, by EXIDE, %s", n, sort);
+        demand_corner(rarest, c->set_exide[n][extended], text, show);
     }
-    free(log);
-    for (unsigned i = 0; i < COVER_MATCH_EID17_16; i++) { /* the others by check_match */
-        if (c.count[i] == 0)
-            fail(__FILE__, __LINE__, "random logs: expected \"%s\" to happen, got none",
-                 cover_text[i]);
+}
+
+/* Nearly all sets there are; the fixed cases have every one. */
+static void check_sets_met(const struct cover *c, bool show)
+{
+    enum { LEAST = COVER_SETS * 9 / 10 };
+    unsigned met = 0;
+    for (unsigned set = 0; set < COVER_SETS; set++) {
+        met += c->sets[set] > 0;
         if (show)
-            printf("%10lu  %s\n", c.count[i], cover_text[i]);
+            printf("%10lu  frames with set %02Xh\n", c->sets[set], set);
     }
-    check_buffer_sessions(&c, show);
-    check_resets(&c, show);
-    *rarest = check_stored_length_codes(&c, show);
-    *rarest_match = check_match(&c, show);
+    if (met < LEAST)
+        fail(__FILE__, __LINE__, "random logs: expected %d different sets, got %u", LEAST, met);
+}
+
+static unsigned long frames_with(const struct cover *c, unsigned filters, unsigned of_filters)
+{
+    unsigned long sum = 0;
+    for (unsigned set = 0; set < COVER_SETS; set++)
+        if ((set & of_filters) == filters)
+            sum += c->sets[set];
+    return sum;
+}
+
+/* Any two filters: both in a set, either of them, neither. */
+static void check_filter_pairs(const struct cover *c, struct rarest *rarest, bool show)
+{
+    for (unsigned b = 1; b < MATCH_FILTERS; b++)
+        for (unsigned a = 0; a < b; a++)
+            for (unsigned has = 0; has < 4; has++) {
+                unsigned has_a = has & 1, has_b = has >> 1;
+                char text[64];
+                snprintf(text, sizeof text, "set %s RXF%u, %s RXF%u", has_a ? "with" : "without",
+                         a, has_b ? "with" : "without", b);
+                demand_corner(rarest, frames_with(c, has_a << a | has_b << b, 1u << a | 1u << b),
+                              text, show);
+            }
+}
+
+/* The rules of the set by their effect. */
+static struct rarest check_sets(const struct cover *c, bool show)
+{
+    struct rarest rarest = {.count = ULONG_MAX};
+    char text[64];
+    EXPECT("sets otherwise than by match.c", 0, c->set_otherwise);
+    for (unsigned i = COVER_SET_PAST_LOWEST; i < COVER_POINTS; i++) {
+        snprintf(text, sizeof text, "set: %s", cover_text[i]);
+        demand_corner(&rarest, c->count[i], text, show);
+    }
+    check_sets_met(c, show);
+    check_filter_pairs(c, &rarest, show);
+    check_set_bytes(c, &rarest, show);
+    return rarest;
+}
+
+/* Listed commands, whole and cut, with events before and after their moment. */
+static void check_tidied_tally(const struct tidy_tally *tally, bool show)
+{
     for (unsigned i = 0; i < TIDY_COMMANDS; i++) {
         bool can_be_cut = i != TIDY_EMPTY && i != TIDY_RESET && i != TIDY_RTS && i != TIDY_UNKNOWN;
         if (tally->with_events[i] == 0 || (can_be_cut && tally->cut_with_events[i] == 0))
@@ -1287,12 +1452,42 @@ static void test_coverage(uint64_t seeds, const struct tidy_tally *tally, struct
     EXPECT("events after a moment", true, tally->events_after > 0);
 }
 
+struct rarest_met {
+    struct rarest stored, match, set;
+};
+
+/* Random logs are worth something only if they get everywhere. */
+static struct rarest_met test_coverage(uint64_t seeds, bool show)
+{
+    enum { RECORDS = 3000, LOGS = 400 };
+    struct cover c = {0};
+    struct rarest_met rarest;
+    uint8_t *log = malloc(RECORD_BYTES * RECORDS);
+    for (unsigned i = 0; i < LOGS; i++) {
+        gen_log(GEN_MIXED, gen_next(&seeds), log, RECORDS);
+        cover_log(&c, log, RECORDS);
+    }
+    free(log);
+    for (unsigned i = 0; i < COVER_MATCH_EID17_16; i++) { /* then check_match and check_sets */
+        if (c.count[i] == 0)
+            fail(__FILE__, __LINE__, "random logs: expected \"%s\" to happen, got none",
+                 cover_text[i]);
+        if (show)
+            printf("%10lu  %s\n", c.count[i], cover_text[i]);
+    }
+    check_buffer_sessions(&c, show);
+    check_resets(&c, show);
+    rarest.stored = check_stored_length_codes(&c, show);
+    rarest.match = check_match(&c, show);
+    rarest.set = check_sets(&c, show);
+    return rarest;
+}
+
 int main(int argc, char **argv)
 {
     uint64_t seed = argc > 1 ? strtoull(argv[1], NULL, 0) : 2515;
     bool show = argc > 2 && strcmp(argv[2], "show") == 0;
     struct tidy_tally tally = {0};
-    struct rarest rarest, rarest_match;
     printf("model tests, seed %llu\n", (unsigned long long)seed);
     test_data_bytes();
     test_fixed_cases();
@@ -1312,7 +1507,8 @@ int main(int argc, char **argv)
     check_speed_log(last_log, 5);
     test_every_step(seed);
     test_demand_3(seed, &tally);
-    test_coverage(seed, &tally, &rarest, &rarest_match, show);
+    check_tidied_tally(&tally, show);
+    struct rarest_met rarest = test_coverage(seed, show);
     if (failures) {
         printf("%u failures\n", failures);
         return 1;
@@ -1321,8 +1517,10 @@ int main(int argc, char **argv)
            case_count(), tidied_moved + tidied_stayed, tidied_moved);
     printf("%u pairs of logs compared\n", pairs_compared);
     printf("frames stored by source, form and length code: the rarest %lu times (%s)\n",
-           rarest.count, rarest.sort);
-    printf("corners of the match rule: the rarest decides %lu frames (%s)\n", rarest_match.count,
-           rarest_match.sort);
+           rarest.stored.count, rarest.stored.sort);
+    printf("corners of the match rule: the rarest decides %lu frames (%s)\n", rarest.match.count,
+           rarest.match.sort);
+    printf("%u sets by hand; corners of their rules: the rarest decides %lu (%s)\n", sets_by_hand,
+           rarest.set.count, rarest.set.sort);
     return 0;
 }
