@@ -1,11 +1,13 @@
 /*
- * The proved whole-log call against the second model: fixed cases, the
- * whole-log rule, random logs of every sort, and the tidied list seen from
- * outside. The first difference ends the run with status 1.
+ * The proved whole-log call against the second model, and with the sets the
+ * same logs record by record: fixed cases, the whole-log rule, random logs of
+ * every sort, and the tidied list seen from outside. The first difference ends
+ * the run with status 1. Sets of every sort are counted, and none may be rare.
  *
  *   compare [records [seed]]
  */
 #define _DEFAULT_SOURCE
+#include <stdbool.h>
 #include <stdio.h>
 #include <stdlib.h>
 #include <string.h>
@@ -26,6 +28,7 @@ enum {
     LONGEST = LOG_RECORDS_MAX + 4, /* some logs are too long on purpose */
     LOG_BYTES = LONGEST * RECORD_BYTES + RECORD_BYTES,
     ANSWER_BYTES = 2 * LONGEST + 256,
+    OUTCOME_BYTES = MCP2515_ANSWER_SET_SIZE, /* refusal, answer, set */
     GUARD_BYTES = 64,
     GUARD = 0xA5
 };
@@ -71,6 +74,7 @@ static uint8_t *at_fence(const struct fence *f, size_t length, size_t gap)
 struct call {
     int64_t result;
     const uint8_t *answers; /* valid until the next call */
+    const uint8_t *sets;    /* of a log compared, one a record; valid as long */
 };
 
 static void check_guard(const uint8_t *bytes, size_t length, const char *where)
@@ -90,7 +94,7 @@ static struct call watched_call(const uint8_t *log, size_t log_len, size_t answe
     size_t gap = variation & 1 ? GUARD_BYTES : 0;
     uint8_t *lent = at_fence(&log_fence, log_len, variation & 2 ? variation >> 2 & 15 : 0);
     uint8_t *answers = at_fence(&answer_fence, answers_len, gap);
-    struct call c;
+    struct call c = {0};
     if (log_len)
         memcpy(lent, log, log_len);
     memset(answers - GUARD_BYTES, GUARD, GUARD_BYTES + answers_len + gap);
@@ -124,6 +128,136 @@ static void stop_at_record(const char *what, const uint8_t *log, size_t i, const
     stop(what);
 }
 
+/* ---- the same log record by record, with the sets ---- */
+
+enum { HEARD, SENT_IN_LOOPBACK, SOURCES };
+enum { NO_FILTER, ONE_FILTER, MORE_FILTERS, SET_SIZES };
+enum { OWN_IN_FLIGHT, NOT_LISTENING, WOKE, NOT_HEARD };
+enum { FILTERS = 6, OF_RXB0 = 0x03, OF_RXB1 = 0x3C };
+
+static unsigned long long sets_met[SOURCES][SET_SIZES], of_filter[FILTERS], of_both_buffers,
+    rxm_11[2], would_match[NOT_HEARD];
+
+/* A frame that the chip received. RXM is as it was: receiving does not change it. */
+static void count_received(const struct model *m, unsigned source, uint8_t set)
+{
+    unsigned size = set == 0 ? NO_FILTER : (set & (set - 1)) == 0 ? ONE_FILTER : MORE_FILTERS;
+    sets_met[source][size]++;
+    for (unsigned n = 0; n < FILTERS; n++)
+        of_filter[n] += set >> n & 1;
+    of_both_buffers += (set & OF_RXB0) && (set & OF_RXB1);
+    rxm_11[0] += (m->reg[RXB0CTRL] & RXM) == RXM && (set & OF_RXB0);
+    rxm_11[1] += (m->reg[RXB1CTRL] & RXM) == RXM && (set & OF_RXB1);
+}
+
+/* A frame that the chip did not receive, if filters would have matched it. */
+static void count_not_heard(const struct model *m, const uint8_t *record, const uint8_t *outcome)
+{
+    struct model listening = *m;
+    uint8_t refusal, answer, set;
+    listening.mode = MODE_LISTEN_ONLY;
+    listening.flight = NO_FLIGHT;
+    listening.tec = 0;
+    model_step_set(&listening, record, &refusal, &answer, &set);
+    if (set != 0)
+        would_match[outcome[0] != REFUSED_NOT ? OWN_IN_FLIGHT
+                    : outcome[1] == RX_WOKE   ? WOKE
+                                              : NOT_LISTENING]++;
+}
+
+/* m is the chip after the record, loopback its mode before it. */
+static void count_set(const struct model *m, bool loopback, const uint8_t *record,
+                      const uint8_t *outcome)
+{
+    bool accepted = outcome[0] == REFUSED_NOT;
+    if (record[0] == KIND_FRAME && accepted && outcome[1] <= RX_LOST)
+        count_received(m, HEARD, outcome[2]);
+    else if (record[0] == KIND_FRAME)
+        count_not_heard(m, record, outcome);
+    else if (record[0] == KIND_FRAME_ENDS && accepted && loopback)
+        count_received(m, SENT_IN_LOOPBACK, outcome[2]);
+}
+
+static void stop_at_set(const char *what, const uint8_t *log, size_t i, uint8_t want, uint8_t got)
+{
+    printf("record %zu: expected set %02Xh, got %02Xh\n", i + 1, want, got);
+    print_record(log + RECORD_BYTES * i);
+    stop(what);
+}
+
+static void stop_at_outcome(const char *what, const uint8_t *record, size_t i, const uint8_t *want,
+                            const uint8_t *got)
+{
+    printf("record %zu: expected refusal %u answer %u set %02Xh, got %u %u %02Xh\n", i + 1, want[0],
+           want[1], want[2], got[0], got[1], got[2]);
+    print_record(record);
+    stop(what);
+}
+
+/* From power-on by both; c has the answers of the whole log and gets the sets. */
+static void compare_sets(const uint8_t *log, size_t records, struct call *c)
+{
+    static uint8_t sets[LONGEST];
+    uint8_t chip[MCP2515_CHIP_SIZE];
+    struct model m;
+    model_power_on(&m);
+    mcp2515_power_on(chip, sizeof chip);
+    for (size_t i = 0; i < records; i++) {
+        const uint8_t *record = log + RECORD_BYTES * i;
+        bool loopback = m.mode == MODE_LOOPBACK;
+        uint8_t want[OUTCOME_BYTES], got[OUTCOME_BYTES] = {GUARD, GUARD, GUARD};
+        model_step_set(&m, record, &want[0], &want[1], &want[2]);
+        if (mcp2515_step_set(chip, sizeof chip, record, RECORD_BYTES, got, sizeof got) !=
+            OUTCOME_BYTES)
+            stop("result of mcp2515_step_set");
+        if (memcmp(want, got, sizeof got) != 0)
+            stop_at_outcome("mcp2515_step_set and the model disagree", record, i, want, got);
+        if (memcmp(c->answers + 2 * i, got, 2) != 0)
+            stop_at_record("mcp2515_step_set answers otherwise than the whole log", log, i,
+                           c->answers + 2 * i, got);
+        count_set(&m, loopback, record, got);
+        sets[i] = got[2];
+    }
+    c->sets = sets;
+}
+
+static void demand(const char *what, unsigned long long count, unsigned long long least)
+{
+    printf("  %-52s %10llu\n", what, count);
+    if (count >= least)
+        return;
+    printf("TOO SELDOM: expected %llu at least\nseed %llu\n", least, seed_given);
+    exit(1);
+}
+
+/* The least counts go with the length of the run. */
+static void demand_sets(unsigned long long records)
+{
+    static const char *const source_name[SOURCES] = {"frame heard", "own frame in Loopback"};
+    static const char *const size_name[SET_SIZES] = {"no filter", "one filter", "several filters"};
+    static const char *const not_heard_name[NOT_HEARD] = {"during a flight", "not listening",
+                                                          "woke"};
+    char text[64];
+    for (unsigned i = 0; i < SOURCES * SET_SIZES; i++) {
+        unsigned source = i / SET_SIZES, size = i % SET_SIZES;
+        snprintf(text, sizeof text, "%s, %s in the set", source_name[source], size_name[size]);
+        demand(text, sets_met[source][size], records / (source == HEARD ? 1000 : 5000));
+    }
+    for (unsigned n = 0; n < FILTERS; n++) {
+        snprintf(text, sizeof text, "set with filter %u", n);
+        demand(text, of_filter[n], records / 1000);
+    }
+    demand("set with filters of both buffers", of_both_buffers, records / 1000);
+    for (unsigned n = 0; n < 2; n++) {
+        snprintf(text, sizeof text, "set with filters of RXB%u, whose RXM is 11", n);
+        demand(text, rxm_11[n], records / 1000);
+    }
+    for (unsigned i = 0; i < NOT_HEARD; i++) {
+        snprintf(text, sizeof text, "no set, %s, though filters match", not_heard_name[i]);
+        demand(text, would_match[i], records / 10000);
+    }
+}
+
 /* Runs a log by both and compares; model_answers gets the model's answers. */
 static struct call compare_log(const uint8_t *log, size_t log_len, size_t answers_len,
                                unsigned variation, uint8_t *model_answers)
@@ -139,14 +273,33 @@ static struct call compare_log(const uint8_t *log, size_t log_len, size_t answer
         if (memcmp(model_answers + 2 * i, c.answers + 2 * i, 2) != 0)
             stop_at_record("the call and the model disagree", log, (size_t)i,
                            model_answers + 2 * i, c.answers + 2 * i);
-    if (want > 0)
+    if (want > 0) {
+        compare_sets(log, (size_t)want, &c);
         records_run += (unsigned long long)want;
+    }
     return c;
 }
 
 /* ---- fixed cases, by their own expectations ---- */
 
-static void check_case(const char *name, const struct script *s)
+static unsigned long long sets_by_hand;
+
+/* Where a case says the set. */
+static void check_sets_by_hand(const char *name, const struct script *s, const uint8_t *sets)
+{
+    for (size_t i = 0; i < s->count; i++) {
+        const struct script_want *want = &s->want[i];
+        if (want->set == SET_UNSAID)
+            continue;
+        sets_by_hand++;
+        if (sets[i] == want->set)
+            continue;
+        printf("%s:%d: %s\n", want->file, want->line, name);
+        stop_at_set("the set of a fixed case", s->records, i, (uint8_t)want->set, sets[i]);
+    }
+}
+
+static struct call check_case(const char *name, const struct script *s)
 {
     struct call c = watched_call(s->records, RECORD_BYTES * s->count, 2 * s->count, 0);
     if (c.result != (int64_t)s->count)
@@ -159,7 +312,10 @@ static void check_case(const char *name, const struct script *s)
             stop_at_record("a fixed case", s->records, i, pair, c.answers + 2 * i);
         }
     }
+    compare_sets(s->records, s->count, &c);
+    check_sets_by_hand(name, s, c.sets);
     records_run += s->count;
+    return c;
 }
 
 static void check_cases(void)
@@ -174,11 +330,13 @@ static void check_cases(void)
     script_free(&s);
 }
 
-/* Lists tidied by hand, as they came and tidied, by the answers of the hand. */
+/* Lists tidied by hand, as they came and tidied, by the answers of the hand; the sets of both
+ * are the same. */
 static void check_tidied_list(const struct tidied_list *t)
 {
     struct script tidied;
-    check_case(t->name, &t->s);
+    uint8_t *sets = malloc(t->s.count);
+    memcpy(sets, check_case(t->name, &t->s).sets, t->s.count);
     script_init(&tidied);
     for (size_t i = 0; i < t->s.count; i++) {
         size_t from = tidied_record(t, i);
@@ -187,8 +345,12 @@ static void check_tidied_list(const struct tidied_list *t)
         tidied.line = want->line;
         sc_raw(&tidied, t->s.records + RECORD_BYTES * from, want->refusal, want->answer);
     }
-    check_case(t->name, &tidied);
+    struct call c = check_case(t->name, &tidied);
+    for (size_t i = 0; i < t->s.count; i++)
+        if (c.sets[i] != sets[tidied_record(t, i)])
+            stop_at_set(t->name, tidied.records, i, sets[tidied_record(t, i)], c.sets[i]);
     script_free(&tidied);
+    free(sets);
 }
 
 /* ---- whole-log rule ---- */
@@ -318,14 +480,35 @@ static void end_probe(struct script *s)
 }
 
 static void check_map(const uint8_t *log, size_t records, const size_t *map,
-                      const uint8_t *as_came, const uint8_t *in_order)
+                      const struct call *as_came, const struct call *in_order)
 {
-    for (size_t i = 0; i < records; i++)
-        if (memcmp(as_came + 2 * map[i], in_order + 2 * i, 2) != 0) {
+    for (size_t i = 0; i < records; i++) {
+        const uint8_t *want = as_came->answers + 2 * map[i], *got = in_order->answers + 2 * i;
+        if (memcmp(want, got, 2) != 0) {
             printf("tidied place %zu\n", i + 1);
-            stop_at_record("the tidied list answers otherwise", log, map[i], as_came + 2 * map[i],
-                           in_order + 2 * i);
+            stop_at_record("the tidied list answers otherwise", log, map[i], want, got);
         }
+        if (as_came->sets[map[i]] != in_order->sets[i]) {
+            printf("tidied place %zu\n", i + 1);
+            stop_at_set("the tidied list has another set", log, map[i], as_came->sets[map[i]],
+                        in_order->sets[i]);
+        }
+    }
+}
+
+/* The list as it came and tidied, by both; room has the answers and sets of the first run
+ * during the second. */
+static void check_both_orders(const uint8_t *log, const uint8_t *tidied, size_t records,
+                              const size_t *map, uint8_t *room, uint8_t *model_answers)
+{
+    struct call as_came = compare_log(log, RECORD_BYTES * records, 2 * records, 0, model_answers);
+    memcpy(room, as_came.answers, 2 * records);
+    memcpy(room + 2 * records, as_came.sets, records);
+    as_came.answers = room;
+    as_came.sets = room + 2 * records;
+    struct call in_order =
+        compare_log(tidied, RECORD_BYTES * records, 2 * records, 0, model_answers);
+    check_map(log, records, map, &as_came, &in_order);
 }
 
 static void check_tidied(uint64_t *state, unsigned long long records, uint8_t *log,
@@ -333,7 +516,7 @@ static void check_tidied(uint64_t *state, unsigned long long records, uint8_t *l
 {
     enum { MOST = 6000 };
     unsigned long long until = records_run + records;
-    uint8_t *tidied = malloc(RECORD_BYTES * MOST), *as_came = malloc(2 * MOST);
+    uint8_t *tidied = malloc(RECORD_BYTES * MOST), *as_came = malloc(OUTCOME_BYTES * MOST);
     size_t *map = malloc(MOST * sizeof *map);
     struct script probe;
     script_init(&probe);
@@ -344,10 +527,7 @@ static void check_tidied(uint64_t *state, unsigned long long records, uint8_t *l
         memcpy(log + RECORD_BYTES * length, probe.records, RECORD_BYTES * probe.count);
         length += probe.count;
         tidy_log(log, length, tidied, map, tally);
-        struct call c = compare_log(log, RECORD_BYTES * length, 2 * length, 0, model_answers);
-        memcpy(as_came, c.answers, 2 * length);
-        c = compare_log(tidied, RECORD_BYTES * length, 2 * length, 0, model_answers);
-        check_map(log, length, map, as_came, c.answers);
+        check_both_orders(log, tidied, length, map, as_came, model_answers);
     }
     script_free(&probe);
     free(tidied);
@@ -374,6 +554,9 @@ int main(int argc, char **argv)
     check_tidied(&state, records / 2, log, model_answers, &tally);
     printf("with the tidied lists: %llu logs, %llu records\n", logs_run, records_run);
     printf("events moved: %lu before, %lu after\n", tally.events_before, tally.events_after);
+    printf("met:\n");
+    demand("set of a fixed case, worked out by hand", sets_by_hand, 1);
+    demand_sets(records);
     free(log);
     free(model_answers);
     printf("no difference\n");

@@ -12,7 +12,10 @@ enum {
     CHIP = MCP2515_CHIP_SIZE,
     RECORD = MCP2515_RECORD_SIZE,
     ANSWER = MCP2515_ANSWER_SIZE,
-    ENTRY = MCP2515_ENTRY_SIZE
+    ANSWER_SET = MCP2515_ANSWER_SET_SIZE,
+    ENTRY = MCP2515_ENTRY_SIZE,
+    LINE = MCP2515_LINE_SIZE,
+    ALL_FILTERS = 0x3F
 };
 
 static unsigned checked;
@@ -24,6 +27,27 @@ static void expect(const char *what, int64_t want, int64_t got)
         return;
     printf("header: %s: expected %lld, got %lld\n", what, (long long)want, (long long)got);
     exit(1);
+}
+
+/* What the documents promise, by number. */
+static void check_sizes(void)
+{
+    expect("bytes of a record", 16, RECORD);
+    expect("bytes of an answer", 2, ANSWER);
+    expect("bytes of an answer with its set", 3, ANSWER_SET);
+    expect("bytes of an entry", 10, ENTRY);
+    expect("room for a line", 23, LINE);
+    expect("bytes of a chip", 152, CHIP);
+    expect("records of the longest log", 65535, MCP2515_MOST_RECORDS);
+}
+
+/* Three numbers with a dot between, as pkg-config has to sort them. */
+static void check_version(void)
+{
+    unsigned number[3];
+    char end;
+    expect("numbers of the version", 3,
+           sscanf(MCP2515_VERSION, "%u.%u.%u%c", &number[0], &number[1], &number[2], &end));
 }
 
 static void check_chip(void)
@@ -82,7 +106,7 @@ static void check_places(void)
 
 static void check_record_limits(void)
 {
-    uint8_t chip[CHIP], record[RECORD + 1] = {0}, answer[ANSWER];
+    uint8_t chip[CHIP], record[RECORD + 1] = {0}, answer[ANSWER_SET];
     mcp2515_power_on(chip, CHIP);
     expect("a record short of a byte", -MCP2515_REFUSED_LENGTH,
            mcp2515_step(chip, CHIP, record, RECORD - 1, answer, ANSWER));
@@ -90,6 +114,29 @@ static void check_record_limits(void)
            mcp2515_step(chip, CHIP, record, RECORD + 1, answer, ANSWER));
     expect("an answer short of a byte", -MCP2515_REFUSED_ROOM,
            mcp2515_step(chip, CHIP, record, RECORD, answer, ANSWER - 1));
+    expect("with the set, a record short of a byte", -MCP2515_REFUSED_LENGTH,
+           mcp2515_step_set(chip, CHIP, record, RECORD - 1, answer, ANSWER_SET));
+    expect("with the set, a record with a byte more", -MCP2515_REFUSED_LENGTH,
+           mcp2515_step_set(chip, CHIP, record, RECORD + 1, answer, ANSWER_SET));
+    expect("with the set, an answer short of a byte", -MCP2515_REFUSED_ROOM,
+           mcp2515_step_set(chip, CHIP, record, RECORD, answer, ANSWER_SET - 1));
+}
+
+/* With filters and masks at 0 every filter takes a standard frame, and none an extended one. */
+static void check_set(void)
+{
+    uint8_t chip[CHIP], standard[RECORD] = {3}, extended[RECORD] = {3, 1}, answer[ANSWER_SET];
+    mcp2515_power_on(chip, CHIP);
+    write_register(chip, 0x0F, 0x60); /* Listen-Only */
+    expect("a step with the set", ANSWER_SET,
+           mcp2515_step_set(chip, CHIP, standard, RECORD, answer, ANSWER_SET));
+    expect("the refusal of a frame", 0, answer[0]);
+    expect("its answer, in RXB0", 1, answer[1]);
+    expect("its set", ALL_FILTERS, answer[2]);
+    expect("a step with another set", ANSWER_SET,
+           mcp2515_step_set(chip, CHIP, extended, RECORD, answer, ANSWER_SET));
+    expect("the answer to a frame without a match", 0, answer[1]);
+    expect("the set of that frame", 0, answer[2]);
 }
 
 static void check_log_limits(void)
@@ -115,7 +162,7 @@ static void check_log_limits(void)
 /* One record each, which differ: an unknown kind, and bus idle with nothing to send. */
 static void check_entry(void)
 {
-    static const uint8_t want[ENTRY] = {0, 0, 0, 1, MCP2515_REFUSED_FIELD, 0, 0, 3};
+    static const uint8_t want[ENTRY] = {0, 0, 0, 1, MCP2515_REFUSED_FIELD, 0, 0, 3, 0, 0};
     uint8_t first[RECORD + 1] = {8}, second[RECORD + 1] = {4}, entries[ENTRY];
     expect("two logs of a record", 1,
            mcp2515_compare_logs(first, RECORD, second, RECORD, entries, ENTRY));
@@ -127,6 +174,23 @@ static void check_entry(void)
            mcp2515_compare_logs(first, RECORD + 1, second, RECORD, entries, ENTRY));
     expect("the second log with a byte more", -MCP2515_REFUSED_LENGTH,
            mcp2515_compare_logs(first, RECORD, second, RECORD + 1, entries, ENTRY));
+}
+
+/* A frame that every filter takes, and one that none takes, after the way to Listen-Only. */
+static void check_entry_sets(void)
+{
+    static const uint8_t want[ENTRY] = {0, 0, 0, 6, 0, 1, 0, 0, ALL_FILTERS, 0};
+    static const uint8_t swapped[ENTRY] = {0, 0, 0, 6, 0, 0, 0, 1, 0, ALL_FILTERS};
+    uint8_t first[6][RECORD] = {{0}, {1, 0x02}, {1, 0x0F}, {1, 0x60}, {2}, {3}};
+    uint8_t second[6][RECORD], entry[ENTRY];
+    memcpy(second, first, sizeof second);
+    second[5][1] = 1; /* extended */
+    expect("two frames", 1,
+           mcp2515_compare_logs(first[0], sizeof first, second[0], sizeof second, entry, ENTRY));
+    expect("the sets in the entry", 0, memcmp(entry, want, ENTRY));
+    expect("two frames, swapped", 1,
+           mcp2515_compare_logs(second[0], sizeof second, first[0], sizeof first, entry, ENTRY));
+    expect("the sets in the entry, swapped", 0, memcmp(entry, swapped, ENTRY));
 }
 
 /* In the longest logs every record differs. */
@@ -154,27 +218,34 @@ static void check_entry_limits(void)
     free(entries);
 }
 
-/* The longest line there is: a number of ten digits and an answer of three. */
+/* The longest line there could be: a number of ten digits and three bytes of three. */
 static void check_line(void)
 {
-    uint8_t chip[CHIP], part[RECORD] = {0}, text[2 * MCP2515_LINE_SIZE];
+    uint8_t chip[CHIP], part[RECORD] = {0}, frame[RECORD] = {3}, text[2 * LINE];
     mcp2515_power_on(chip, CHIP);
     expect("room for a line and one more", 6,
            mcp2515_render(chip, CHIP, 0, part, RECORD, text, sizeof text));
     expect("the line", 0, memcmp(text, "1 0 0\n", 6));
     expect("a byte less", -MCP2515_REFUSED_ROOM,
            mcp2515_render(chip, CHIP, 0, part, RECORD, text, sizeof text - 1));
-    expect("the longest line has room", 1,
-           snprintf(NULL, 0, "%lu 255 255\n", (unsigned long)UINT32_MAX) <= MCP2515_LINE_SIZE);
+    expect("room for the line of a frame", 8,
+           mcp2515_render(chip, CHIP, 1, frame, RECORD, text, sizeof text));
+    expect("the line of a frame", 0, memcmp(text, "2 0 4 0\n", 8));
+    expect("the longest line has room", LINE,
+           snprintf(NULL, 0, "%lu 255 255 255\n", (unsigned long)UINT32_MAX));
 }
 
 int main(void)
 {
+    check_sizes();
+    check_version();
     check_chip();
     check_places();
     check_record_limits();
+    check_set();
     check_log_limits();
     check_entry();
+    check_entry_sets();
     check_entry_limits();
     check_line();
     printf("header: %u checks of sizes, places and limits agree\n", checked);

@@ -1,9 +1,9 @@
 /*
- * The live calls against the second model: random logs record by record with
- * INT after each, by run_from in pieces, as text by render; random bytes as a
- * chip, and as filters and masks; every refusal of every call. The first
- * difference ends the run with status 1. What was met is counted, and none of
- * it may be missing.
+ * The live calls against the second model: random logs record by record, with
+ * the set and without, and INT after each, by run_from in pieces, as text by
+ * render; random bytes as a chip, and as filters and masks; every refusal of
+ * every call. The first difference ends the run with status 1. What was met is
+ * counted, and none of it may be missing.
  *
  *   live [records [seed]]
  */
@@ -25,19 +25,46 @@ enum {
     CHIP = MCP2515_CHIP_SIZE,
     LONGEST = LOG_RECORDS_MAX + 20,
     LONGEST_LINE = 40,
-    REFUSALS = 22
+    REFUSALS = 22,
+    OUTCOME_BYTES = MCP2515_ANSWER_SET_SIZE /* refusal, answer, set */
 };
 
 struct fence chip_fence, in_fence, out_fence;
+
+const struct step_call step_calls[STEP_CALLS] = {
+    {CALL_STEP, mcp2515_step, MCP2515_ANSWER_SIZE},
+    {CALL_STEP_SET, mcp2515_step_set, MCP2515_ANSWER_SET_SIZE},
+};
 
 static unsigned long long seed_given, seed_of_log;
 static uint64_t dice;
 
 /* ---- what was met ---- */
 
-static const char *const call_name[CALLS] = {"run_log",    "power_on", "step",
-                                             "run_from",   "hold",     "read",
-                                             "int_is_low", "render",   "part_refusal"};
+static const char *const call_name[CALLS] = {"run_log",  "power_on", "step", "step_set",
+                                             "run_from", "hold",     "read", "int_is_low",
+                                             "render",   "part_refusal"};
+
+/* Frames received, by where they come from and how many filters are in the set. */
+enum { HEARD, SENT_IN_LOOPBACK, SOURCES };
+enum { NO_FILTER, ONE_FILTER, MORE_FILTERS, SET_SIZES };
+
+/* Lines of a text that show a set, or look as if they would. */
+enum line {
+    LINE_SET,
+    LINE_SET_TWO_DIGITS,
+    LINE_NO_MATCH,
+    LINE_NOT_LISTENING,
+    LINE_WOKE,
+    LINE_FRAME_REFUSED,
+    LINE_LOOPBACK, /* a set that is not shown */
+    LINE_SHORT_FRAME,
+    LINE_FRAME_TOO_MANY,
+    LINES
+};
+
+/* What a bit of a mask would decide if it counted. */
+enum { DECIDES_SET, DECIDES_ANSWER, DECIDES };
 
 static unsigned long long results[CALLS][REFUSALS];       /* 0: accepted */
 static unsigned long long refusals[2][REFUSED_STATE + 1]; /* of records; [1]: on random chips */
@@ -45,9 +72,11 @@ static unsigned long long resets[2];                      /* [1]: on random chip
 static unsigned long long int_lines[2], modes[MODES], opens[OPEN_SPENT + 1];
 static unsigned long long waits, flights, bus_offs, hidden, addresses, wrong_versions,
     wrong_lengths, random_chips, pieces, parts[REFUSALS];
-static unsigned long long junk_decides[3]; /* SIDL bits 4, 3, 2 of mask and filter */
-static unsigned long long srr_decides;     /* SIDL bit 4 of the mask, not of the filter */
-static unsigned long long exide_decides[2]; /* by SIDL bit 3 of the mask */
+static unsigned long long sets[2][SOURCES][SET_SIZES]; /* [1]: of random chips */
+static unsigned long long of_filter[MATCH_FILTERS], of_both_buffers, rxm_11[2], lines[LINES];
+static unsigned long long junk_decides[DECIDES][3]; /* SIDL bits 4, 3, 2 of mask and filter */
+static unsigned long long srr_decides[DECIDES];     /* SIDL bit 4 of the mask, not of the filter */
+static unsigned long long exide_decides[DECIDES][2]; /* by SIDL bit 3 of the mask */
 static unsigned long long refused_parts[2]; /* each record run refused; [1]: random chips */
 
 _Noreturn void live_stop(const char *what)
@@ -68,7 +97,7 @@ void live_result(enum live_call call, int64_t want, int64_t got)
 
 static void demand(const char *what, unsigned long long count)
 {
-    printf("  %-44s %12llu\n", what, count);
+    printf("  %-56s %12llu\n", what, count);
     if (count == 0)
         live_stop("never met");
 }
@@ -90,12 +119,14 @@ static void demand_results(void)
         {CALL_RUN_LOG, 0},      {CALL_RUN_LOG, 6},      {CALL_RUN_LOG, 7},
         {CALL_RUN_LOG, 8},      {CALL_POWER_ON, 0},     {CALL_POWER_ON, 19},
         {CALL_STEP, 0},         {CALL_STEP, 6},         {CALL_STEP, 7},
-        {CALL_STEP, 21},        {CALL_RUN_FROM, 0},     {CALL_RUN_FROM, 6},
-        {CALL_RUN_FROM, 7},     {CALL_RUN_FROM, 8},     {CALL_RUN_FROM, 21},
-        {CALL_HOLD, 0},         {CALL_HOLD, 21},        {CALL_READ, 0},
-        {CALL_READ, 21},        {CALL_INT_IS_LOW, 0},   {CALL_INT_IS_LOW, 21},
-        {CALL_RENDER, 0},       {CALL_RENDER, 7},       {CALL_RENDER, 21},
-        {CALL_PART_REFUSAL, 0}, {CALL_PART_REFUSAL, 6}, {CALL_PART_REFUSAL, 8},
+        {CALL_STEP, 21},        {CALL_STEP_SET, 0},     {CALL_STEP_SET, 6},
+        {CALL_STEP_SET, 7},     {CALL_STEP_SET, 21},    {CALL_RUN_FROM, 0},
+        {CALL_RUN_FROM, 6},     {CALL_RUN_FROM, 7},     {CALL_RUN_FROM, 8},
+        {CALL_RUN_FROM, 21},    {CALL_HOLD, 0},         {CALL_HOLD, 21},
+        {CALL_READ, 0},         {CALL_READ, 21},        {CALL_INT_IS_LOW, 0},
+        {CALL_INT_IS_LOW, 21},  {CALL_RENDER, 0},       {CALL_RENDER, 7},
+        {CALL_RENDER, 21},      {CALL_PART_REFUSAL, 0}, {CALL_PART_REFUSAL, 6},
+        {CALL_PART_REFUSAL, 8},
     };
     for (size_t i = 0; i < sizeof wanted / sizeof *wanted; i++) {
         char text[64];
@@ -105,10 +136,61 @@ static void demand_results(void)
     }
 }
 
+static void demand_sets(void)
+{
+    static const char *const source_name[SOURCES] = {"frame heard", "own frame in Loopback"};
+    static const char *const size_name[SET_SIZES] = {"no filter", "one filter", "several filters"};
+    char text[96];
+    for (unsigned i = 0; i < 2 * SOURCES * SET_SIZES; i++) {
+        unsigned random = i / (SOURCES * SET_SIZES), source = i / SET_SIZES % SOURCES;
+        snprintf(text, sizeof text, "%s, %s%s", source_name[source], size_name[i % SET_SIZES],
+                 random ? ", random chip" : "");
+        demand(text, sets[random][source][i % SET_SIZES]);
+    }
+    demand_numbers("set with filter", of_filter, MATCH_FILTERS);
+    demand("set with filters of both buffers", of_both_buffers);
+    demand_numbers("set with filters of a buffer with RXM 11, RXB", rxm_11, 2);
+}
+
+static void demand_junk(void)
+{
+    static const char *const decided[DECIDES] = {"the set", "the answer"};
+    char text[96];
+    for (unsigned i = 0; i < DECIDES; i++) {
+        for (unsigned bit = 0; bit < 3; bit++) {
+            snprintf(text, sizeof text, "SIDL bit %u of mask, filter would decide %s", 4 - bit,
+                     decided[i]);
+            demand(text, junk_decides[i][bit]);
+        }
+        snprintf(text, sizeof text, "SIDL bit 4 of the mask, as SRR, would decide %s", decided[i]);
+        demand(text, srr_decides[i]);
+        snprintf(text, sizeof text, "EXIDE decides %s, that mask bit is", decided[i]);
+        demand_numbers(text, exide_decides[i], 2);
+    }
+}
+
+static void demand_lines(void)
+{
+    static const char *const line_name[LINES] = {
+        [LINE_SET] = "line with a set",
+        [LINE_SET_TWO_DIGITS] = "line with a set of two digits",
+        [LINE_NO_MATCH] = "line of a frame without a match",
+        [LINE_NOT_LISTENING] = "line of a frame not listened to",
+        [LINE_WOKE] = "line of a frame that woke the chip",
+        [LINE_FRAME_REFUSED] = "line of a frame refused",
+        [LINE_LOOPBACK] = "line of an own frame with a set, not shown",
+        [LINE_SHORT_FRAME] = "line of refusal 6, the tail starts as a frame",
+        [LINE_FRAME_TOO_MANY] = "line of refusal 8, the record is a frame",
+    };
+    for (unsigned i = 0; i < LINES; i++)
+        demand(line_name[i], lines[i]);
+}
+
 static void demand_all(void)
 {
     printf("met:\n");
     demand_results();
+    demand_sets();
     demand_numbers("record of a reached chip, refusal", refusals[0], REFUSED_STATE + 1);
     demand_numbers("record of a random chip, refusal", refusals[1], REFUSED_STATE + 1);
     demand("RESET of a reached chip", resets[0]);
@@ -124,13 +206,8 @@ static void demand_all(void)
     demand("random chip", random_chips);
     demand("random bytes of another version", wrong_versions);
     demand("random bytes of another length", wrong_lengths);
-    for (unsigned i = 0; i < 3; i++) {
-        char text[64];
-        snprintf(text, sizeof text, "SIDL bit %u of mask and filter would decide", 4 - i);
-        demand(text, junk_decides[i]);
-    }
-    demand("SIDL bit 4 of the mask would, as SRR", srr_decides);
-    demand_numbers("EXIDE decides, that bit of the mask is", exide_decides, 2);
+    demand_junk();
+    demand_lines();
     demand("piece of a log by run_from", pieces);
     demand("part of a text that goes on", parts[0]);
     demand("part of a text that ends in refusal 6", parts[REFUSED_RAGGED]);
@@ -222,35 +299,83 @@ static void check_addresses(const struct pair *p)
         live_stop("a question changed the chip");
 }
 
-static void step_pair(struct pair *p, const uint8_t *record)
+/* RXM is as it was before the frame: receiving does not change it. */
+static void count_received(const struct pair *p, unsigned source, uint8_t set)
 {
-    uint8_t refusal, answer;
-    size_t room = MCP2515_ANSWER_SIZE + below(3);
+    unsigned size = set == 0 ? NO_FILTER : (set & (set - 1)) == 0 ? ONE_FILTER : MORE_FILTERS;
+    unsigned of_rxb0 = set & 0x03, of_rxb1 = set & 0x3C;
+    sets[p->random][source][size]++;
+    for (unsigned n = 0; n < MATCH_FILTERS; n++)
+        of_filter[n] += set >> n & 1;
+    of_both_buffers += of_rxb0 && of_rxb1;
+    rxm_11[0] += (p->m.reg[RXB0CTRL] & RXM) == RXM && of_rxb0;
+    rxm_11[1] += (p->m.reg[RXB1CTRL] & RXM) == RXM && of_rxb1;
+}
+
+/* loopback: the mode before the record. */
+static void count_set(const struct pair *p, bool loopback, const uint8_t *record,
+                      const uint8_t *outcome)
+{
+    if (outcome[0] != REFUSED_NOT)
+        return;
+    if (record[0] == KIND_FRAME && outcome[1] <= RX_LOST)
+        count_received(p, HEARD, outcome[2]);
+    if (record[0] == KIND_FRAME_ENDS && loopback)
+        count_received(p, SENT_IN_LOOPBACK, outcome[2]);
+}
+
+/* One record by one of the calls, from the chip before; what it leaves goes to p. */
+static void step_by(const struct step_call *step, struct pair *p, const uint8_t *before,
+                    const uint8_t *record, const uint8_t *want)
+{
+    size_t size = step->answer_size, room = size + below(3);
     uint8_t *chip = fence_lend(&chip_fence, CHIP);
-    uint8_t *lent = fence_lend(&in_fence, RECORD_BYTES), *got = fence_lend(&out_fence, room);
-    uint8_t before[CHIP];
-    bool resets_it = p->m.open == OPEN_CODE && record[0] == KIND_EXCHANGE && record[1] == SPI_RESET;
-    memcpy(before, p->chip, CHIP);
-    memcpy(chip, p->chip, CHIP);
+    uint8_t *lent = fence_lend(&in_fence, RECORD_BYTES), *answer = fence_lend(&out_fence, room);
+    uint8_t got[OUTCOME_BYTES], given[RECORD_BYTES]; /* comparing next to a fence is slow */
+    memcpy(chip, before, CHIP);
     memcpy(lent, record, RECORD_BYTES);
-    count_state(&p->m);
-    model_step(&p->m, record, &refusal, &answer);
-    live_result(CALL_STEP, MCP2515_ANSWER_SIZE,
-                mcp2515_step(chip, CHIP, lent, RECORD_BYTES, got, room));
+    live_result(step->call, (int64_t)size, step->run(chip, CHIP, lent, RECORD_BYTES, answer, room));
     memcpy(p->chip, chip, CHIP);
-    if (got[0] != refusal || got[1] != answer) {
-        printf("kind %u: expected refusal %u answer %u, got %u %u\n", record[0], refusal, answer,
-               got[0], got[1]);
+    memcpy(got, answer, size);
+    memcpy(given, lent, RECORD_BYTES);
+    if (memcmp(got, want, size) != 0) {
+        printf("mcp2515_%s, kind %u: expected refusal %u answer %u set %02Xh, got",
+               call_name[step->call], record[0], want[0], want[1], want[2]);
+        for (size_t i = 0; i < size; i++)
+            printf(" %02Xh", got[i]);
+        printf("\n");
         print_state(p, before);
         live_stop("a step");
     }
-    if (!fence_filled(got + 2, room - 2) || !fence_intact(&chip_fence, CHIP) ||
-        !fence_intact(&out_fence, room) || memcmp(lent, record, RECORD_BYTES) != 0)
+    if (!fence_filled(answer + size, room - size) || !fence_intact(&chip_fence, CHIP) ||
+        !fence_intact(&out_fence, room) || memcmp(given, record, RECORD_BYTES) != 0)
         live_stop("a step wrote beside its answer");
-    check_bytes(p, before, refusal != REFUSED_NOT);
+}
+
+/* By both calls from the same chip: they leave the same bytes. The set is told a third time
+ * by match.c. */
+static void step_pair(struct pair *p, const uint8_t *record)
+{
+    uint8_t before[CHIP], after[CHIP], want[OUTCOME_BYTES];
+    struct model met = p->m;
+    bool resets_it = met.open == OPEN_CODE && record[0] == KIND_EXCHANGE && record[1] == SPI_RESET;
+    memcpy(before, p->chip, CHIP);
+    count_state(&met);
+    model_step_set(&p->m, record, &want[0], &want[1], &want[2]);
+    if (want[2] != match_set_of_step(&met, record, want[0]))
+        live_stop("the set of the model is not that of match.c");
+    step_by(&step_calls[0], p, before, record, want);
+    memcpy(after, p->chip, CHIP);
+    step_by(&step_calls[1], p, before, record, want);
+    if (memcmp(after, p->chip, CHIP) != 0) {
+        print_state(p, before);
+        live_stop("mcp2515_step and mcp2515_step_set leave different chips");
+    }
+    check_bytes(p, before, want[0] != REFUSED_NOT);
     check_int(p);
-    refusals[p->random][refusal]++;
-    resets[p->random] += resets_it && refusal == REFUSED_NOT;
+    count_set(p, met.mode == MODE_LOOPBACK, record, want);
+    refusals[p->random][want[0]]++;
+    resets[p->random] += resets_it && want[0] == REFUSED_NOT;
 }
 
 /* ---- random logs ---- */
@@ -337,25 +462,52 @@ struct told {
     size_t refused; /* of these, by the chip */
 };
 
+static void count_line(uint8_t kind, const uint8_t *outcome)
+{
+    bool set = outcome[2] != 0;
+    lines[LINE_LOOPBACK] += kind == KIND_FRAME_ENDS && set;
+    if (kind != KIND_FRAME)
+        return;
+    lines[LINE_SHORT_FRAME] += outcome[0] == REFUSED_RAGGED;
+    lines[LINE_FRAME_TOO_MANY] += outcome[0] == REFUSED_TOO_LONG;
+    lines[LINE_FRAME_REFUSED] += outcome[0] != REFUSED_NOT && outcome[0] <= REFUSED_STATE;
+    lines[LINE_NO_MATCH] += outcome[0] == REFUSED_NOT && outcome[1] <= RX_LOST && !set;
+    lines[LINE_NOT_LISTENING] += outcome[1] == RX_NOT_LISTENING;
+    lines[LINE_WOKE] += outcome[1] == RX_WOKE;
+    lines[LINE_SET] += set;
+    lines[LINE_SET_TWO_DIGITS] += outcome[2] > 9;
+}
+
+/* A frame that was run shows its set, refused or not. */
+static size_t print_line(char *text, unsigned long number, const uint8_t *outcome, bool shows_set)
+{
+    int bytes = snprintf(text, LONGEST_LINE, "%lu %u %u", number, outcome[0], outcome[1]);
+    if (shows_set)
+        bytes += snprintf(text + bytes, LONGEST_LINE, " %u", outcome[2]);
+    text[bytes] = '\n';
+    return (size_t)bytes + 1;
+}
+
 /* The lines that expected.c would print from here on. */
 static struct told model_text(struct model *m, unsigned long number, const uint8_t *part,
                               size_t part_len, char *text)
 {
     struct told told = {.end = REFUSED_NOT};
     for (size_t i = 0; i < part_len && told.end == REFUSED_NOT; i += RECORD_BYTES) {
-        uint8_t refusal, answer = 0;
+        uint8_t outcome[OUTCOME_BYTES] = {0};
         number++;
         if (part_len - i < RECORD_BYTES) {
-            told.end = refusal = REFUSED_RAGGED;
+            told.end = outcome[0] = REFUSED_RAGGED;
         } else if (number > LOG_RECORDS_MAX) {
-            told.end = refusal = REFUSED_TOO_LONG;
+            told.end = outcome[0] = REFUSED_TOO_LONG;
         } else {
-            model_step(m, part + i, &refusal, &answer);
+            model_step_set(m, part + i, &outcome[0], &outcome[1], &outcome[2]);
             told.run++;
-            told.refused += refusal != REFUSED_NOT;
+            told.refused += outcome[0] != REFUSED_NOT;
         }
-        told.bytes += (size_t)snprintf(text + told.bytes, LONGEST_LINE, "%lu %u %u\n", number,
-                                       refusal, answer);
+        count_line(part[i], outcome);
+        told.bytes += print_line(text + told.bytes, number, outcome,
+                                 told.end == REFUSED_NOT && part[i] == KIND_FRAME);
     }
     return told;
 }
@@ -463,8 +615,10 @@ static void refuse_bytes(void)
         return;
     memcpy(before, bytes, length);
     live_result(CALL_STEP, -21, mcp2515_step(bytes, length, record, 16, answer, 2));
+    live_result(CALL_STEP_SET, -21, mcp2515_step_set(bytes, length, record, 16, answer, 3));
     live_result(CALL_RUN_FROM, -21, mcp2515_run_from(bytes, length, record, 16, answer, 2));
-    live_result(CALL_RENDER, -21, mcp2515_render(bytes, length, 0, record, 16, answer, 38));
+    live_result(CALL_RENDER, -21,
+                mcp2515_render(bytes, length, 0, record, 16, answer, 2 * MCP2515_LINE_SIZE));
     live_result(CALL_HOLD, -21, mcp2515_hold(bytes, length, (uint8_t)below(256)));
     live_result(CALL_READ, -21, mcp2515_read(bytes, length, (uint8_t)below(256)));
     live_result(CALL_INT_IS_LOW, -21, mcp2515_int_is_low(bytes, length));
@@ -517,24 +671,34 @@ static void junk_chip(struct pair *p, uint8_t mode)
     chip_decode(p->chip, &p->m);
 }
 
-/* Counts what would answer otherwise if masks counted as they stand: SIDL bits
- * 4, 3 and 2 too, where a frame has 0, or at bit 4 the SRR of a standard remote
- * frame; and EXIDE, where it alone keeps a frame out, only under bit 3. */
+/* A filter that matches, and would not if its mask counted as it stands: SIDL bits 4, 3
+ * and 2 too, where a frame has 0, or at bit 4 the SRR of a standard remote frame. */
+static void count_junk_bits(unsigned decides, uint32_t filter, uint32_t mask, bool srr)
+{
+    for (unsigned i = 0; i < 3; i++)
+        junk_decides[decides][i] += filter >> (20 - i) & mask >> (20 - i) & 1;
+    srr_decides[decides] += srr && (~filter & mask & (uint32_t)SRR << 16) != 0;
+}
+
+/* Counts these, and filters that EXIDE alone keeps from matching, as it should whether mask
+ * bit 3 is set or not. Each would change the set, some the answer too. */
 static void count_junk(const struct model *m, const uint8_t *record, const struct match_frame *f,
                        bool remote, uint8_t answer)
 {
     unsigned set = match_set(m, f);
+    bool srr = remote && !(f->bits & MATCH_EXIDE);
     for (unsigned n = 0; n < MATCH_FILTERS; n++) {
         uint32_t filter = match_filter(m, n), mask = match_mask(m, match_mask_of(n));
-        uint32_t srr = remote && !(f->bits & MATCH_EXIDE) ? (uint32_t)SRR << 16 : 0;
         bool matches = set >> n & 1, alone = match_differs(filter, mask, f) == MATCH_EXIDE;
-        if ((!matches && !alone) || match_answer(m, record, f, set ^ 1u << n) == answer)
+        if (!matches && !alone)
             continue;
-        for (unsigned i = 0; matches && i < 3; i++)
-            junk_decides[i] += filter >> (20 - i) & mask >> (20 - i) & 1;
-        srr_decides += matches && (~filter & mask & srr) != 0;
-        if (alone)
-            exide_decides[(mask & MATCH_EXIDE) != 0]++;
+        bool of_answer = match_answer(m, record, f, set ^ 1u << n) != answer;
+        for (unsigned i = DECIDES_SET; i <= (of_answer ? DECIDES_ANSWER : DECIDES_SET); i++) {
+            if (matches)
+                count_junk_bits(i, filter, mask, srr);
+            else
+                exide_decides[i][(mask & MATCH_EXIDE) != 0]++;
+        }
     }
 }
 
@@ -607,44 +771,61 @@ static void junk_in_filters(void)
 struct worker {
     const uint8_t *log;
     size_t records;
-    uint8_t *answers;
-    bool live; /* record by record; else the whole log at once */
+    uint8_t *answers;             /* three bytes a record, of which a call may fill two */
+    const struct step_call *step; /* record by record; NULL for the whole log at once */
 };
+
+static size_t worker_answer(const struct worker *w)
+{
+    return w->step ? w->step->answer_size : MCP2515_ANSWER_SIZE;
+}
 
 static void *work(void *argument)
 {
     struct worker *w = argument;
     uint8_t chip[CHIP];
-    if (!w->live) {
-        mcp2515_run_log(w->log, RECORD_BYTES * w->records, w->answers, 2 * w->records);
+    size_t size = worker_answer(w);
+    if (!w->step) {
+        mcp2515_run_log(w->log, RECORD_BYTES * w->records, w->answers, size * w->records);
         return NULL;
     }
     mcp2515_power_on(chip, CHIP);
     for (size_t i = 0; i < w->records; i++)
-        mcp2515_step(chip, CHIP, w->log + RECORD_BYTES * i, RECORD_BYTES, w->answers + 2 * i, 2);
+        w->step->run(chip, CHIP, w->log + RECORD_BYTES * i, RECORD_BYTES, w->answers + size * i,
+                     size);
     return NULL;
+}
+
+static void check_worker(const struct worker *w)
+{
+    struct model m;
+    size_t size = worker_answer(w);
+    model_power_on(&m);
+    for (size_t i = 0; i < w->records; i++) {
+        uint8_t want[OUTCOME_BYTES];
+        model_step_set(&m, w->log + RECORD_BYTES * i, &want[0], &want[1], &want[2]);
+        if (memcmp(w->answers + size * i, want, size) != 0)
+            live_stop("calls in several threads");
+    }
 }
 
 static void check_threads(uint8_t *log)
 {
-    enum { WORKERS = 4, RECORDS = 60000 };
+    enum { WORKERS = 6, RECORDS = 60000 };
     pthread_t thread[WORKERS];
     struct worker w[WORKERS];
-    uint8_t *want = malloc(2 * RECORDS);
     some_log(log, RECORDS);
-    model_run_log(log, RECORD_BYTES * RECORDS, want, 2 * RECORDS);
     for (unsigned i = 0; i < WORKERS; i++) {
-        w[i] = (struct worker){log, RECORDS, malloc(2 * RECORDS), i % 2};
+        const struct step_call *step = i % 3 < STEP_CALLS ? &step_calls[i % 3] : NULL;
+        w[i] = (struct worker){log, RECORDS, malloc(OUTCOME_BYTES * RECORDS), step};
         if (pthread_create(&thread[i], NULL, work, &w[i]) != 0)
             live_stop("no thread");
     }
     for (unsigned i = 0; i < WORKERS; i++) {
         pthread_join(thread[i], NULL);
-        if (memcmp(w[i].answers, want, 2 * RECORDS) != 0)
-            live_stop("calls in several threads");
+        check_worker(&w[i]);
         free(w[i].answers);
     }
-    free(want);
 }
 
 static unsigned long long steps_done(void)

@@ -2,6 +2,7 @@
 #ifndef BENCH_LIVE_H
 #define BENCH_LIVE_H
 
+#include <stddef.h>
 #include <stdint.h>
 
 #include "fence.h"
@@ -12,6 +13,7 @@ enum live_call {
     CALL_RUN_LOG,
     CALL_POWER_ON,
     CALL_STEP,
+    CALL_STEP_SET,
     CALL_RUN_FROM,
     CALL_HOLD,
     CALL_READ,
@@ -26,6 +28,17 @@ enum { SPARE_FROM = 146 };
 
 /* What every call lends; filled anew by each lend. */
 extern struct fence chip_fence, in_fence, out_fence;
+
+/* The two calls for one record, which differ in the bytes that they answer. */
+struct step_call {
+    enum live_call call;
+    int64_t (*run)(uint8_t *chip, size_t chip_len, const uint8_t *record, size_t record_len,
+                   uint8_t *answer, size_t answer_len);
+    size_t answer_size;
+};
+
+enum { STEP_CALLS = 2 };
+extern const struct step_call step_calls[STEP_CALLS];
 
 /* Prints what differs, with the seed, and ends with status 1. */
 _Noreturn void live_stop(const char *what);

@@ -81,7 +81,8 @@ static void edge_power_on(void)
     live_result(CALL_POWER_ON, -MCP2515_REFUSED_CHIP_ROOM, mcp2515_power_on(NULL, 0));
 }
 
-static void step_at(size_t chip_len, uint8_t version, size_t record_len, size_t answer_len)
+static void step_at(const struct step_call *step, size_t chip_len, uint8_t version,
+                    size_t record_len, size_t answer_len)
 {
     uint8_t *chip = lend_chip(chip_len, version);
     uint8_t *record = fence_lend(&in_fence, record_len);
@@ -89,20 +90,21 @@ static void step_at(size_t chip_len, uint8_t version, size_t record_len, size_t 
     struct edge e = watch(chip, chip_len, record_len, answer, answer_len);
     int64_t want = !is_chip(chip_len, version)         ? -MCP2515_REFUSED_NO_CHIP
                    : record_len != MCP2515_RECORD_SIZE ? -MCP2515_REFUSED_LENGTH
-                   : answer_len < MCP2515_ANSWER_SIZE  ? -MCP2515_REFUSED_ROOM
-                                                       : MCP2515_ANSWER_SIZE;
+                   : answer_len < step->answer_size    ? -MCP2515_REFUSED_ROOM
+                                                       : (int64_t)step->answer_size;
     memset(record, 0, record_len); /* select low */
-    int64_t got = mcp2515_step(chip, chip_len, record, record_len, answer, answer_len);
-    live_result(CALL_STEP, want, got);
-    check_untouched(&e, got, got < 0 ? 0 : MCP2515_ANSWER_SIZE);
+    int64_t got = step->run(chip, chip_len, record, record_len, answer, answer_len);
+    live_result(step->call, want, got);
+    check_untouched(&e, got, got < 0 ? 0 : step->answer_size);
 }
 
 static void edge_step(size_t chip_len, uint8_t version)
 {
     static const size_t record_lengths[] = {0, 1, 15, 16, 17, 32};
     for (size_t i = 0; i < COUNT(record_lengths); i++)
-        for (size_t answer_len = 0; answer_len < 5; answer_len++)
-            step_at(chip_len, version, record_lengths[i], answer_len);
+        for (size_t answer_len = 0; answer_len < 6; answer_len++)
+            for (unsigned n = 0; n < STEP_CALLS; n++)
+                step_at(&step_calls[n], chip_len, version, record_lengths[i], answer_len);
 }
 
 static int64_t want_of_run(size_t log_len, size_t answers_len)
@@ -166,18 +168,27 @@ static void edge_questions(size_t chip_len, uint8_t version)
     check_untouched(&e, -1, 0);
 }
 
-static void render_at(size_t chip_len, uint8_t version, size_t part_len, size_t text_len)
+/* The fill is no record, so a line is "1 2 0\n": 6 bytes up to record 9. As a frame, which is
+ * refused too, a record has two bytes more, but a short one has not. */
+static int64_t bytes_of_text(size_t part_len, bool frames)
+{
+    size_t records = part_len / MCP2515_RECORD_SIZE, ragged = part_len % MCP2515_RECORD_SIZE != 0;
+    return (int64_t)(6 * (records + ragged) + (frames ? 2 * records : 0));
+}
+
+static void render_at(size_t chip_len, uint8_t version, size_t part_len, size_t text_len,
+                      bool frames)
 {
     uint8_t *chip = lend_chip(chip_len, version);
     uint8_t *part = fence_lend(&in_fence, part_len);
     uint8_t *text = fence_lend(&out_fence, text_len);
     struct edge e = watch(chip, chip_len, part_len, text, text_len);
-    size_t records = part_len / MCP2515_RECORD_SIZE, ragged = part_len % MCP2515_RECORD_SIZE != 0;
-    /* The fill is no record, so a line is "1 2 0\n": 6 bytes up to record 9. */
     int64_t want = !is_chip(chip_len, version) ? -MCP2515_REFUSED_NO_CHIP
-                   : text_len < (records + 1) * MCP2515_LINE_SIZE
+                   : text_len < (part_len / MCP2515_RECORD_SIZE + 1) * MCP2515_LINE_SIZE
                        ? -MCP2515_REFUSED_ROOM
-                       : (int64_t)(6 * (records + ragged));
+                       : bytes_of_text(part_len, frames);
+    for (size_t i = 0; frames && i < part_len; i += MCP2515_RECORD_SIZE)
+        part[i] = KIND_FRAME;
     int64_t got = mcp2515_render(chip, chip_len, 0, part, part_len, text, text_len);
     live_result(CALL_RENDER, want, got);
     check_untouched(&e, got, got < 0 ? 0 : (size_t)got);
@@ -188,10 +199,12 @@ static void edge_render(size_t chip_len, uint8_t version)
     static const size_t part_lengths[] = {0, 1, 15, 16, 17, 31, 32, 33, 128, 129};
     for (size_t i = 0; i < COUNT(part_lengths); i++) {
         size_t room = (part_lengths[i] / MCP2515_RECORD_SIZE + 1) * MCP2515_LINE_SIZE;
-        render_at(chip_len, version, part_lengths[i], 0);
-        render_at(chip_len, version, part_lengths[i], room - 1);
-        render_at(chip_len, version, part_lengths[i], room);
-        render_at(chip_len, version, part_lengths[i], room + 9);
+        for (unsigned frames = 0; frames < 2; frames++) {
+            render_at(chip_len, version, part_lengths[i], 0, frames);
+            render_at(chip_len, version, part_lengths[i], room - 1, frames);
+            render_at(chip_len, version, part_lengths[i], room, frames);
+            render_at(chip_len, version, part_lengths[i], room + 9, frames);
+        }
     }
 }
 
@@ -221,9 +234,12 @@ static void edge_null(void)
     uint8_t *chip = lend_chip(MCP2515_CHIP_SIZE, MCP2515_CHIP_VERSION);
     uint8_t bytes[MCP2515_LINE_SIZE] = {0};
     live_result(CALL_RUN_LOG, 0, mcp2515_run_log(NULL, 0, NULL, 0));
-    live_result(CALL_STEP, -21, mcp2515_step(NULL, 0, NULL, 0, NULL, 0));
-    live_result(CALL_STEP, -6, mcp2515_step(chip, MCP2515_CHIP_SIZE, NULL, 0, NULL, 0));
-    live_result(CALL_STEP, -7, mcp2515_step(chip, MCP2515_CHIP_SIZE, bytes, 16, NULL, 0));
+    for (unsigned n = 0; n < STEP_CALLS; n++) {
+        const struct step_call *step = &step_calls[n];
+        live_result(step->call, -21, step->run(NULL, 0, NULL, 0, NULL, 0));
+        live_result(step->call, -6, step->run(chip, MCP2515_CHIP_SIZE, NULL, 0, NULL, 0));
+        live_result(step->call, -7, step->run(chip, MCP2515_CHIP_SIZE, bytes, 16, NULL, 0));
+    }
     live_result(CALL_RUN_FROM, -21, mcp2515_run_from(NULL, 0, NULL, 0, NULL, 0));
     live_result(CALL_RUN_FROM, 0, mcp2515_run_from(chip, MCP2515_CHIP_SIZE, NULL, 0, NULL, 0));
     live_result(CALL_RUN_FROM, -7, mcp2515_run_from(chip, MCP2515_CHIP_SIZE, bytes, 16, NULL, 0));

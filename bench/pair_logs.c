@@ -6,12 +6,14 @@
 #include <string.h>
 
 #include "gen.h"
+#include "registers.h"
+#include "script.h"
 
 const char *const pair_sort_name[PAIR_SORTS] = {
     "the same bytes twice", "a log and its own end", "equal copies",
-    "one byte changed",     "one byte, no answer",   "records inserted",
-    "records removed",      "one cut short",         "unrelated",
-    "alike, then parted",   "damaged here and there"};
+    "one byte changed",     "one byte, no answer",   "one byte of a filter",
+    "records inserted",     "records removed",       "one cut short",
+    "unrelated",            "alike, then parted",    "damaged here and there"};
 
 static unsigned below(uint64_t *dice, size_t n)
 {
@@ -202,6 +204,45 @@ static void part_ways(uint8_t *first, uint8_t *second, size_t records, uint64_t 
     }
 }
 
+/* A filter and the mask of RXB1, in Configuration, then a mode that receives. RXF0 and RXF1
+ * and their mask stay 0: RXB0 takes every standard frame, whatever the others say. */
+static void set_up_rxb1(struct script *s, uint8_t mode, uint64_t *dice)
+{
+    static const uint8_t filters[] = {RXF2SIDH, RXF3SIDH, RXF4SIDH, RXF5SIDH};
+    static const uint32_t masks[] = {0, 0xFFE00000, 0xFFE0FF00, 0x0000FFFF, 0xFFE3FFFF};
+    sc_write4(s, filters[below(dice, 4)], (uint32_t)gen_next(dice) & ~(uint32_t)(IDE << 16));
+    sc_write4(s, RXM1SIDH, masks[below(dice, 5)]);
+    sc_mode(s, mode);
+}
+
+/* A byte of the filter or of the mask differs, and nothing else. What follows is made for the
+ * first log. */
+static void filter_apart(uint8_t *first, uint8_t *second, size_t records, uint64_t *dice)
+{
+    enum { SESSION = 8, FIRST_BYTE = 3 }; /* after select low, the code and the address */
+    static const uint8_t modes[] = {MODE_NORMAL, MODE_LISTEN_ONLY, MODE_LOOPBACK, MODE_LOOPBACK};
+    struct script s;
+    struct gen g;
+    size_t byte = SESSION * below(dice, 2) + FIRST_BYTE + below(dice, 4);
+    script_init(&s);
+    gen_start(&g, below(dice, 4) ? GEN_BUSY : GEN_MIXED, gen_next(dice));
+    g.mix.favoured = modes[below(dice, sizeof modes)];
+    set_up_rxb1(&s, g.mix.favoured, dice);
+    for (size_t i = 0; i < records; i++) {
+        uint8_t *record = first + RECORD_BYTES * i, refusal, answer;
+        if (i < s.count) {
+            memcpy(record, s.records + RECORD_BYTES * i, RECORD_BYTES);
+            model_step(&g.chip, record, &refusal, &answer);
+        } else {
+            gen_record(&g, record);
+        }
+    }
+    memcpy(second, first, RECORD_BYTES * records);
+    if (byte < records)
+        second[RECORD_BYTES * byte + 1] ^= (uint8_t)(1 + below(dice, 255));
+    script_free(&s);
+}
+
 static void swap_logs(struct log_pair *p)
 {
     struct log_part first = p->first;
@@ -215,6 +256,8 @@ void pair_fill(struct log_pair *p, enum pair_sort sort, size_t records, uint64_t
     size_t other = records;
     if (sort == PAIR_PARTED && records > 0) {
         part_ways(first, second, records, dice);
+    } else if (sort == PAIR_FILTER) {
+        filter_apart(first, second, records, dice);
     } else {
         some_log(dice, first, records);
         memcpy(second, first, RECORD_BYTES * records);

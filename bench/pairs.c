@@ -21,6 +21,8 @@
 
 enum { DEFAULT_PAIRS = 30000, DEFAULT_SEED = 2515, LARGER_BY = 40 };
 
+_Static_assert((int)ENTRY_BYTES == MCP2515_ENTRY_SIZE, "an entry of the model and of the call");
+
 /* The room lent for entries. */
 enum room {
     ROOM_EXACT,
@@ -28,13 +30,15 @@ enum room {
     ROOM_FOR_ALL, /* for every record of the shorter log */
     ROOM_BYTE_SHORT,
     ROOM_ENTRY_SHORT,
+    ROOM_WITHOUT_SETS, /* for the entries that differ in more than the set */
     ROOM_NONE,
     ROOM_NULL,
     ROOMS
 };
 
 static const char *const room_name[ROOMS] = {
-    "exact", "larger", "for every record", "a byte short", "an entry short", "none", "none, NULL"};
+    "exact",          "larger",           "for every record", "a byte short",
+    "an entry short", "without the sets", "none",             "none, NULL"};
 
 static struct fence first_fence, second_fence, entries_fence;
 static uint8_t *model_entries;
@@ -54,7 +58,13 @@ _Noreturn static void stop(const char *what)
 
 /* ---- what was met ---- */
 
-enum { DIFFERS_RECORD = 1, DIFFERS_REFUSAL = 2, DIFFERS_ANSWER = 4, DIFFERENCES = 8 };
+enum {
+    DIFFERS_RECORD = 1,
+    DIFFERS_REFUSAL = 2,
+    DIFFERS_ANSWER = 4,
+    DIFFERS_SET = 8,
+    DIFFERENCES = 16
+};
 enum { LEFT_NOTHING, LEFT_OF_FIRST, LEFT_OF_SECOND, LEFTS };
 enum { EDGE_FIRST, EDGE_LAST, EDGES };                  /* of a block */
 enum { LESS_BY_ONE, WHOLE, MORE_BY_ONE, LENGTHS_NEAR }; /* records, against blocks */
@@ -66,6 +76,8 @@ static unsigned long long sorts[PAIR_SORTS], faults[LENGTHS][LENGTHS], rooms[ROO
 static near_blocks lengths_near, rests_near;
 static unsigned long long in_first_record, in_last_record, alone, record_alone, equal_pairs,
     all_differ, above_255, above_32767, longest, swapped, with_itself, cut_alike, null_logs;
+/* Entries with two sets, by what the record is; [1]: nothing else differs. */
+static unsigned long long sets_heard[2], sets_in_loopback[2], short_by_set_alone;
 
 static void demand(const char *what, unsigned long long count, unsigned least)
 {
@@ -96,19 +108,35 @@ static void demand_calls(void)
             demand(text, rooms[i][0], 100);
         snprintf(text, sizeof text, "room: %s, refusal 7", room_name[i]);
         if (i >= ROOM_BYTE_SHORT)
-            demand(text, rooms[i][1], 100);
+            demand(text, rooms[i][1], i == ROOM_WITHOUT_SETS ? 50 : 100);
     }
+    demand("too short by an entry or a byte of it, of the set alone", short_by_set_alone, 100);
     demand("log of no bytes, NULL", null_logs, 20);
+}
+
+/* Where a record is refused in one log only, the other has a set only with an answer: a frame
+ * that is answered 0 has no match. */
+static bool cannot_be(unsigned differences)
+{
+    return (differences & DIFFERS_REFUSAL) && (differences & DIFFERS_SET) &&
+           !(differences & DIFFERS_ANSWER);
 }
 
 static void demand_entries(void)
 {
     char text[96];
     for (unsigned i = 1; i < DIFFERENCES; i++) {
-        snprintf(text, sizeof text, "entry: differ%s%s%s", i & DIFFERS_RECORD ? " record" : "",
-                 i & DIFFERS_REFUSAL ? " refusal" : "", i & DIFFERS_ANSWER ? " answer" : "");
+        if (cannot_be(i))
+            continue;
+        snprintf(text, sizeof text, "entry: differ%s%s%s%s", i & DIFFERS_RECORD ? " record" : "",
+                 i & DIFFERS_REFUSAL ? " refusal" : "", i & DIFFERS_ANSWER ? " answer" : "",
+                 i & DIFFERS_SET ? " set" : "");
         demand(text, combinations[i], 1000);
     }
+    demand("entry: two sets of a frame heard", sets_heard[0], 1000);
+    demand("entry: nothing but two sets of a frame heard", sets_heard[1], 1000);
+    demand("entry: two sets of an own frame in Loopback", sets_in_loopback[0], 300);
+    demand("entry: nothing but two sets of such a frame", sets_in_loopback[1], 300);
     demand("entry: number above 255", above_255, 1000);
     demand("entry: number above 32,767", above_32767, 1000);
     demand("no entry", equal_pairs, 100);
@@ -163,9 +191,9 @@ static size_t number_of(const uint8_t *entry)
     return (size_t)entry[0] << 24 | (size_t)entry[1] << 16 | (size_t)entry[2] << 8 | entry[3];
 }
 
-static void count_entry(const struct log_pair *p, const uint8_t *entry)
+static unsigned differences_of(const struct log_pair *p, const uint8_t *entry)
 {
-    size_t number = number_of(entry), at = RECORD_BYTES * (number - 1);
+    size_t at = RECORD_BYTES * (number_of(entry) - 1);
     unsigned differs = 0;
     if (memcmp(p->first.bytes + at, p->second.bytes + at, RECORD_BYTES) != 0)
         differs |= DIFFERS_RECORD;
@@ -173,7 +201,33 @@ static void count_entry(const struct log_pair *p, const uint8_t *entry)
         differs |= DIFFERS_REFUSAL;
     if (entry[5] != entry[7])
         differs |= DIFFERS_ANSWER;
+    if (entry[8] != entry[9])
+        differs |= DIFFERS_SET;
+    return differs;
+}
+
+/* Of the model's entries of this pair. */
+static size_t count_set_alone(const struct log_pair *p, size_t count)
+{
+    size_t set_alone = 0;
+    for (size_t i = 0; i < count; i++)
+        set_alone += differences_of(p, model_entries + ENTRY_BYTES * i) == DIFFERS_SET;
+    return set_alone;
+}
+
+static void count_entry(const struct log_pair *p, const uint8_t *entry)
+{
+    size_t number = number_of(entry), at = RECORD_BYTES * (number - 1);
+    unsigned differs = differences_of(p, entry);
+    uint8_t kind = p->first.bytes[at];
+    if (cannot_be(differs))
+        stop("a set without an answer");
     combinations[differs]++;
+    if ((differs & DIFFERS_SET) && p->second.bytes[at] == kind) {
+        unsigned long long *met = kind == KIND_FRAME ? sets_heard : sets_in_loopback;
+        met[0]++;
+        met[1] += differs == DIFFERS_SET;
+    }
     above_255 += number > 255;
     above_32767 += number > 32767;
 }
@@ -213,7 +267,7 @@ static void count_accepted(const struct log_pair *p, size_t count, struct log_pa
     count_places(records, count > 0 ? number_of(model_entries) : 0);
     equal_pairs += count == 0 && records > 0;
     alone += count == 1;
-    record_alone += count == 1 && memcmp(model_entries + 4, model_entries + 6, 2) == 0;
+    record_alone += count == 1 && differences_of(p, model_entries) == DIFFERS_RECORD;
     all_differ += count == records && records > 1;
     lefts[leftover.length == 0                 ? LEFT_NOTHING
           : p->first.length > p->second.length ? LEFT_OF_FIRST
@@ -301,8 +355,8 @@ static struct call watched_call(struct log_part first, struct log_part second, s
 
 static void print_entry(const char *whose, const uint8_t *entry)
 {
-    printf("%s: record %zu: %u %u, %u %u\n", whose, number_of(entry), entry[4], entry[5], entry[6],
-           entry[7]);
+    printf("%s: record %zu: %u %u, %u %u, sets %02Xh, %02Xh\n", whose, number_of(entry), entry[4],
+           entry[5], entry[6], entry[7], entry[8], entry[9]);
 }
 
 static void check_result(const char *what, int64_t want, const struct call *c,
@@ -332,14 +386,17 @@ static void check_case(const struct pair_case *c)
 
 /* ---- random pairs ---- */
 
-static size_t room_bytes(enum room room, size_t count, size_t records)
+/* The model's entries of the pair are there. */
+static size_t room_bytes(enum room room, const struct log_pair *p, size_t count)
 {
     size_t exact = ENTRY_BYTES * count;
     switch (room) {
     case ROOM_LARGER:
         return exact + 1 + below(LARGER_BY);
     case ROOM_FOR_ALL:
-        return ENTRY_BYTES * records;
+        return ENTRY_BYTES * records_of_both(p->first, p->second);
+    case ROOM_WITHOUT_SETS:
+        return exact - ENTRY_BYTES * count_set_alone(p, count);
     case ROOM_BYTE_SHORT:
         return count > 0 ? exact - 1 : exact;
     case ROOM_ENTRY_SHORT:
@@ -352,11 +409,12 @@ static size_t room_bytes(enum room room, size_t count, size_t records)
     }
 }
 
-/* By both, with this room; the model is asked again, as it may refuse this time. */
+/* By both, with this room; the model is asked again, as it may refuse this time, and then
+ * leaves its entries of before. */
 static void compare_room(const struct log_pair *p, enum room room, size_t count)
 {
     struct log_part leftover;
-    size_t entries_len = room_bytes(room, count, records_of_both(p->first, p->second));
+    size_t entries_len = room_bytes(room, p, count);
     int64_t want = model_compare_logs(p->first.bytes, p->first.length, p->second.bytes,
                                       p->second.length, model_entries, entries_len, &leftover);
     struct call c =
@@ -364,6 +422,9 @@ static void compare_room(const struct log_pair *p, enum room room, size_t count)
     check_result("the call and the model disagree", want, &c, model_entries);
     if (want >= 0 || want == -REFUSED_SHORT_OUTPUT)
         rooms[room][want < 0]++;
+    if (want == -REFUSED_SHORT_OUTPUT && (room == ROOM_BYTE_SHORT || room == ROOM_ENTRY_SHORT))
+        short_by_set_alone +=
+            differences_of(p, model_entries + ENTRY_BYTES * (count - 1)) == DIFFERS_SET;
 }
 
 static void check_itself(struct log_part log)
@@ -373,16 +434,27 @@ static void check_itself(struct log_part log)
     with_itself++;
 }
 
+static void swap_bytes(uint8_t *entry, unsigned one, unsigned other)
+{
+    uint8_t byte = entry[one];
+    entry[one] = entry[other];
+    entry[other] = byte;
+}
+
+/* Refusals, answers and sets. */
+static void swap_entry(uint8_t *entry)
+{
+    swap_bytes(entry, 4, 6);
+    swap_bytes(entry, 5, 7);
+    swap_bytes(entry, 8, 9);
+}
+
 /* model_entries has the entries of the pair as it is. */
 static void check_swapped(const struct log_pair *p, size_t count)
 {
     struct call c = watched_call(p->second, p->first, ENTRY_BYTES * count, false);
-    for (size_t i = 0; c.result > 0 && i < ENTRY_BYTES * (size_t)c.result; i += ENTRY_BYTES) {
-        uint8_t first[2];
-        memcpy(first, c.entries + i + 4, 2);
-        memcpy(c.entries + i + 4, c.entries + i + 6, 2);
-        memcpy(c.entries + i + 6, first, 2);
-    }
+    for (int64_t i = 0; i < c.result; i++)
+        swap_entry(c.entries + ENTRY_BYTES * i);
     check_result("the logs swapped", (int64_t)count, &c, model_entries);
     swapped++;
 }

@@ -1,11 +1,12 @@
 /*
  * Time a record of the proved call and of the second model on the same logs,
- * and what a record costs by mcp2515_run_from and by mcp2515_step in parts of
- * the whole-log call; the same for logs that are mostly frames, by the frame;
- * records a second and peak memory of the replay program; then
- * mcp2515_compare_logs in parts of the runs of its logs, with status 1 if a
- * ratio is over its limit. An older archive that is linked in
- * (make speed BEFORE=..) is timed beside, on whole logs.
+ * and what a record costs by mcp2515_run_from, by mcp2515_step and by
+ * mcp2515_step_set in parts of the whole-log call; the same for logs of hardly
+ * anything but frames, by the frame; records a second and peak memory of the
+ * replay program; then mcp2515_compare_logs in parts of the runs of its logs.
+ * An older archive that is linked in (make speed BEFORE=..) is timed beside, on
+ * whole logs; of it only mcp2515_run_log is called. The status is 1 if a ratio
+ * is over its limit.
  *
  *   speed replay log-file-to-write
  */
@@ -27,13 +28,18 @@
 #include "speed.h"
 #include "speed_logs.h"
 
-enum { REPLAY_RUNS = 5 };
+enum { REPLAY_RUNS = 5, MORE_TURNS = 3 };
+enum { ALL_FILTERS = 0x3F, OUTCOME_BYTES = MCP2515_ANSWER_SET_SIZE };
+
+/* What a log that is rich in frames may take, in times of the archive before. */
+static const double frames_limit = 1.10;
 
 /* The whole-log call of the older archive, its name changed; NULL if there is none. */
 int64_t before_mcp2515_run_log(const uint8_t *log, size_t log_len, uint8_t *answers,
                                size_t answers_len) __attribute__((weak));
 
 static uint8_t answers_of_call[2 * MOST], answers_of_model[2 * MOST];
+static uint8_t outcomes_of_call[OUTCOME_BYTES * MOST]; /* refusal, answer, set */
 
 double now(void)
 {
@@ -94,15 +100,25 @@ static void run_steps(const struct pool *p, size_t i)
                      answers_of_call + 2 * at, 2);
 }
 
+static void run_step_sets(const struct pool *p, size_t i)
+{
+    uint8_t chip[MCP2515_CHIP_SIZE];
+    const uint8_t *log = p->bytes + RECORD_BYTES * p->records * i;
+    mcp2515_power_on(chip, sizeof chip);
+    for (size_t at = 0; at < p->records; at++)
+        mcp2515_step_set(chip, sizeof chip, log + RECORD_BYTES * at, RECORD_BYTES,
+                         outcomes_of_call + OUTCOME_BYTES * at, OUTCOME_BYTES);
+}
+
 /* What is timed. */
-enum { CALL, BEFORE, MODEL, FROM, STEPS, WAYS };
+enum { CALL, BEFORE, MODEL, FROM, STEPS, STEP_SETS, WAYS };
 static const struct {
     const char *name;
     void (*run)(const struct pool *, size_t);
 } ways[WAYS] = {
-    {"the call", run_call},     {"the call of the archive before", run_before},
-    {"the model", run_model},   {"mcp2515_run_from", run_from},
-    {"mcp2515_step", run_steps},
+    {"the call", run_call},      {"the call of the archive before", run_before},
+    {"the model", run_model},    {"mcp2515_run_from", run_from},
+    {"mcp2515_step", run_steps}, {"mcp2515_step_set", run_step_sets},
 };
 
 static bool is_there(unsigned way)
@@ -110,16 +126,37 @@ static bool is_there(unsigned way)
     return way != BEFORE || before_mcp2515_run_log;
 }
 
+/* Refusal, answer and set of each record as mcp2515_step_set gave them. */
+static bool outcomes_agree(const struct pool *p, size_t i)
+{
+    struct model m;
+    model_power_on(&m);
+    for (size_t at = 0; at < p->records; at++) {
+        uint8_t want[OUTCOME_BYTES];
+        const uint8_t *record = p->bytes + RECORD_BYTES * (p->records * i + at);
+        model_step_set(&m, record, &want[0], &want[1], &want[2]);
+        if (memcmp(outcomes_of_call + OUTCOME_BYTES * at, want, OUTCOME_BYTES) != 0)
+            return false;
+    }
+    return true;
+}
+
+static bool agrees(unsigned way, const struct pool *p, size_t i)
+{
+    memset(answers_of_call, 0xFF, 2 * p->records);
+    memset(outcomes_of_call, 0xFF, OUTCOME_BYTES * p->records);
+    run_model(p, i);
+    ways[way].run(p, i);
+    if (way == STEP_SETS)
+        return outcomes_agree(p, i);
+    return memcmp(answers_of_call, answers_of_model, 2 * p->records) == 0;
+}
+
 static void check_pool(const char *name, const struct pool *p)
 {
     for (size_t i = 0; i < p->logs; i++)
         for (unsigned way = 0; way < WAYS; way++) {
-            if (way == MODEL || !is_there(way))
-                continue;
-            memset(answers_of_call, 0xFF, 2 * p->records);
-            run_model(p, i);
-            ways[way].run(p, i);
-            if (memcmp(answers_of_call, answers_of_model, 2 * p->records) == 0)
+            if (way == MODEL || !is_there(way) || agrees(way, p, i))
                 continue;
             fprintf(stderr, "%s: %s and the model disagree\n", name, ways[way].name);
             exit(1);
@@ -144,12 +181,13 @@ static void take_best(double *best, unsigned way, const struct pool *p)
         *best = ns;
 }
 
-/* Three ways by turns, so that all meet the same load, in rising and falling order. */
-static void time_three(const struct pool *p, const uint8_t three[3], double ns[WAYS])
+/* By turns, so that all meet the same load, in rising and falling order. */
+static void time_by_turns(const struct pool *p, const uint8_t *timed, unsigned count,
+                          double ns[WAYS])
 {
     for (unsigned go = 0; go < GOES; go++)
-        for (unsigned i = 0; i < 3; i++) {
-            unsigned way = three[go % 2 ? 2 - i : i];
+        for (unsigned i = 0; i < count; i++) {
+            unsigned way = timed[go % 2 ? count - 1 - i : i];
             if (is_there(way))
                 take_best(&ns[way], way, p);
         }
@@ -173,6 +211,30 @@ static size_t random_log(uint64_t seed, uint8_t *log, size_t records)
     return records;
 }
 
+/* Each frame is for RXB0 and has all six filters in its set; some are stored. */
+static void check_first_log(uint8_t *log)
+{
+    size_t frames = 0, stored = 0, others = 0;
+    struct model m;
+    model_power_on(&m);
+    size_t counted = first_log(SEED, log, MOST);
+    for (size_t i = 0; i < MOST; i++) {
+        const uint8_t *record = log + RECORD_BYTES * i;
+        uint8_t refusal, answer, set;
+        model_step_set(&m, record, &refusal, &answer, &set);
+        if (record[0] != KIND_FRAME)
+            continue;
+        frames++;
+        stored += answer == RX_IN_RXB0;
+        others += set != ALL_FILTERS || (answer != RX_IN_RXB0 && answer != RX_LOST);
+    }
+    if (others == 0 && frames == counted && frames > MOST * 3 / 4 && stored > frames / 50)
+        return;
+    fprintf(stderr, "the log first: of %zu frames %zu are stored, %zu not as they should be\n",
+            frames, stored, others);
+    exit(1);
+}
+
 static void print_head(const char *unit)
 {
     char call[16], model[16];
@@ -180,36 +242,63 @@ static void print_head(const char *unit)
     snprintf(model, sizeof model, "model ns/%s", unit);
     printf("%-8s %8s %13s", "log", "records", call);
     if (is_there(BEFORE))
-        printf(" %8s %8s", "before", "ratio");
-    printf(" %14s %8s %9s %9s\n", model, "ratio", "run_from", "step");
+        printf(" %8s %8s %6s", "before", "ratio", "limit");
+    printf(" %14s %8s %9s %9s %9s\n", model, "ratio", "run_from", "step", "step_set");
+}
+
+/* What is timed, and how it is made. */
+struct sort {
+    const char *name;
+    make_log *make;
+    bool has_limit; /* to the archive before: half of the records are frames, or nearly all */
+};
+
+static bool is_over(const struct sort *sort, const double ns[WAYS])
+{
+    return sort->has_limit && is_there(BEFORE) && ns[CALL] > frames_limit * ns[BEFORE];
+}
+
+static void print_before(const struct sort *sort, const double ns[WAYS])
+{
+    char limit[16] = "-";
+    if (sort->has_limit)
+        snprintf(limit, sizeof limit, "%.2f", frames_limit);
+    printf(" %8.1f %8.2f %6s", ns[BEFORE], ns[CALL] / ns[BEFORE], limit);
 }
 
 /* The archives and the model by themselves first: timed among the live calls, which run the
- * code of one archive only, that archive came out faster than its own copy. */
-static void time_row(const char *name, const struct pool *p)
+ * code of one archive only, that archive came out faster than its own copy. Over the limit
+ * they get more turns, as other work may have slowed one of them down. */
+static bool time_row(const struct sort *sort, const struct pool *p)
 {
-    static const uint8_t whole[3] = {CALL, MODEL, BEFORE}, live[3] = {CALL, FROM, STEPS};
+    static const uint8_t whole[] = {CALL, MODEL, BEFORE}, live[] = {CALL, FROM, STEPS, STEP_SETS};
     double ns[WAYS] = {0}, parts[WAYS] = {0};
-    time_three(p, whole, ns);
-    time_three(p, live, parts);
-    printf("%-8s %8zu %13.1f", name, p->records, ns[CALL]);
+    time_by_turns(p, whole, sizeof whole, ns);
+    for (unsigned more = 0; more < MORE_TURNS && is_over(sort, ns); more++)
+        time_by_turns(p, whole, sizeof whole, ns);
+    time_by_turns(p, live, sizeof live, parts);
+    printf("%-8s %8zu %13.1f", sort->name, p->records, ns[CALL]);
     if (is_there(BEFORE))
-        printf(" %8.1f %8.2f", ns[BEFORE], ns[CALL] / ns[BEFORE]);
-    printf(" %14.1f %8.2f %9.2f %9.2f\n", ns[MODEL], ns[CALL] / ns[MODEL],
-           parts[FROM] / parts[CALL], parts[STEPS] / parts[CALL]);
+        print_before(sort, ns);
+    printf(" %14.1f %8.2f %9.2f %9.2f %9.2f%s\n", ns[MODEL], ns[CALL] / ns[MODEL],
+           parts[FROM] / parts[CALL], parts[STEPS] / parts[CALL], parts[STEP_SETS] / parts[CALL],
+           is_over(sort, ns) ? "  OVER THE LIMIT" : "");
     fflush(stdout);
+    return !is_over(sort, ns);
 }
 
-static void time_logs(const char *name, make_log *make, uint8_t *bytes)
+static bool time_logs(const struct sort *sort, uint8_t *bytes)
 {
     static const size_t sizes[] = {1000, 10000, MOST};
+    bool kept = true;
     for (size_t s = 0; s < sizeof sizes / sizeof *sizes; s++) {
         struct pool p = {.bytes = bytes, .records = sizes[s], .logs = MOST / sizes[s]};
         for (size_t i = 0; i < p.logs; i++)
-            p.counted += make(SEED + i, bytes + RECORD_BYTES * p.records * i, p.records);
-        check_pool(name, &p);
-        time_row(name, &p);
+            p.counted += sort->make(SEED + i, bytes + RECORD_BYTES * p.records * i, p.records);
+        check_pool(sort->name, &p);
+        kept = time_row(sort, &p) && kept;
     }
+    return kept;
 }
 
 static void write_log(const char *path, const uint8_t *log)
@@ -267,6 +356,28 @@ static bool time_all_pairs(void)
     return quiet && busy && random;
 }
 
+/* By the record. The last one leaves its log, of full length, to be written. */
+static const struct sort by_record[] = {
+    {"quiet", quiet_log, false},
+    {"busy", busy_log, true},
+    {"random", random_log, false},
+};
+
+/* By the frame. */
+static const struct sort by_frame[] = {
+    {"late", late_log, true},
+    {"last", last_log, true},
+    {"first", first_log, true},
+};
+
+static bool time_sorts(const struct sort *sorts, size_t count, uint8_t *log)
+{
+    bool kept = true;
+    for (size_t i = 0; i < count; i++)
+        kept = time_logs(&sorts[i], log) && kept;
+    return kept;
+}
+
 int main(int argc, char **argv)
 {
     uint8_t *log = malloc((size_t)MOST * RECORD_BYTES);
@@ -274,18 +385,19 @@ int main(int argc, char **argv)
         fprintf(stderr, "usage: speed replay log-file-to-write\n");
         return 1;
     }
+    check_first_log(log);
     print_head("rec");
-    time_logs("quiet", quiet_log, log);
-    time_logs("busy", busy_log, log);
-    time_logs("random", random_log, log);
-    write_log(argv[2], log); /* random, full length */
+    bool records = time_sorts(by_record, sizeof by_record / sizeof *by_record, log);
+    write_log(argv[2], log);
     print_head("frame");
-    time_logs("late", late_log, log);
-    time_logs("last", last_log, log);
+    bool frames = time_sorts(by_frame, sizeof by_frame / sizeof *by_frame, log);
     time_replay(argv[1], argv[2]); /* before the pairs: a fork counts the memory of this program */
     free(log);
-    if (time_all_pairs())
-        return 0;
-    fprintf(stderr, "comparing two logs: a ratio is over its limit\n");
-    return 1;
+    bool pairs = time_all_pairs();
+    if (!records || !frames)
+        fprintf(stderr, "logs rich in frames: more than %.2f times the archive before\n",
+                frames_limit);
+    if (!pairs)
+        fprintf(stderr, "comparing two logs: a ratio is over its limit\n");
+    return records && frames && pairs ? 0 : 1;
 }

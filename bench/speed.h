@@ -13,8 +13,8 @@ enum { MOST = LOG_RECORDS_MAX, SEED = 2515, GOES = 15, PASSES = 5 };
 /* Seconds from some moment on. */
 double now(void);
 
-/* Fills a log and returns what its time is divided by: all records, or of
- * late and last the frames, which then bear the time of the other records. */
+/* Fills a log and returns what its time is divided by: all records, or of late,
+ * last and first the frames, which then bear the time of the other records. */
 typedef size_t make_log(uint64_t seed, uint8_t *log, size_t records);
 
 /* speed_pairs.c: times mcp2515_compare_logs on pairs of such logs, in parts of their runs.

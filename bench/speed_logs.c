@@ -70,12 +70,15 @@ static uint32_t left_out_by(unsigned n)
     return (n & 1 ? IN_SIDH : 0) | (n & 2 ? IN_SIDL : 0) | (n & 4 ? IN_EID8 : 0);
 }
 
-/* Filters for frames with this word, all but the last bit; filter hit has it too. */
-static void configure(struct writer *w, uint32_t word, unsigned hit)
+/* Sets of filters, bit n for filter n. */
+enum { NO_FILTER = 0, FILTER_5 = 0x20, ALL_FILTERS = 0x3F };
+
+/* Filters for frames with this word, all but the last bit; those of the set have it too. */
+static void configure(struct writer *w, uint32_t word, unsigned set)
 {
     uint32_t filters[MATCH_FILTERS], masks[2] = {~left_out, ~left_out};
     for (unsigned n = 0; n < MATCH_FILTERS; n++)
-        filters[n] = ((word & ~left_out) | left_out_by(n)) ^ (n != hit);
+        filters[n] = ((word & ~left_out) | left_out_by(n)) ^ !(set >> n & 1);
     write_byte(w, CANCTRL, MODE_CONFIGURATION << 5 | 7);
     write_words(w, RXF0SIDH, &filters[0], 3);
     write_words(w, RXF3SIDH, &filters[3], 3);
@@ -95,15 +98,15 @@ static void put_frame(struct writer *w, uint32_t word)
     put(w, record);
 }
 
-static size_t frames_log(uint64_t seed, uint8_t *log, size_t records, unsigned hit)
+static size_t frames_log(uint64_t seed, uint8_t *log, size_t records, unsigned set)
 {
     struct writer w = {.dice = seed, .log = log, .records = records};
     bool extended = seed & 1;
     while (w.written < records) {
         uint32_t word = extended ? any_word(&w) | MATCH_EXIDE : any_word(&w) & ~MATCH_EXIDE;
-        configure(&w, word, hit);
+        configure(&w, word, set);
         for (unsigned left = 600 + below(&w, 400), full = 0; left > 0; left--) {
-            if (hit < MATCH_FILTERS && full-- == 0) {
+            if (set != NO_FILTER && full-- == 0) {
                 write_byte(&w, CANINTF, 0);
                 full = 16 + below(&w, 32);
             }
@@ -116,10 +119,15 @@ static size_t frames_log(uint64_t seed, uint8_t *log, size_t records, unsigned h
 
 size_t late_log(uint64_t seed, uint8_t *log, size_t records)
 {
-    return frames_log(seed, log, records, MATCH_FILTERS);
+    return frames_log(seed, log, records, NO_FILTER);
 }
 
 size_t last_log(uint64_t seed, uint8_t *log, size_t records)
 {
-    return frames_log(seed, log, records, 5);
+    return frames_log(seed, log, records, FILTER_5);
+}
+
+size_t first_log(uint64_t seed, uint8_t *log, size_t records)
+{
+    return frames_log(seed, log, records, ALL_FILTERS);
 }

@@ -1,6 +1,6 @@
 /*
- * Logs that are mostly frames which all six filters are asked for, and which
- * each of them compares to the last bit.
+ * Logs that are mostly frames, which each filter that is asked compares to the
+ * last bit.
  */
 #ifndef BENCH_SPEED_LOGS_H
 #define BENCH_SPEED_LOGS_H
@@ -22,5 +22,11 @@ size_t late_log(uint64_t seed, uint8_t *log, size_t records);
  * clears RX1IF now and then; a frame is stored after that, the others are lost.
  */
 size_t last_log(uint64_t seed, uint8_t *log, size_t records);
+
+/*
+ * The same, but all six match. Filter 0 decides for RXB0, so that the others are
+ * compared for the set alone. RX0IF is cleared now and then.
+ */
+size_t first_log(uint64_t seed, uint8_t *log, size_t records);
 
 #endif

@@ -11,6 +11,8 @@
 #include "mcp2515.h"
 #include "speed.h"
 
+_Static_assert((int)ENTRY_BYTES == MCP2515_ENTRY_SIZE, "an entry of the model and of the call");
+
 /* Logs of one size, as many as fit, each with another one to compare it with. */
 struct pairs {
     uint8_t *first, *second;

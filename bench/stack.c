@@ -62,6 +62,13 @@ static void do_step(void)
                      MCP2515_ANSWER_SIZE);
 }
 
+static void do_step_set(void)
+{
+    for (size_t i = 0; i < RECORDS; i++)
+        mcp2515_step_set(chip, sizeof chip, records + MCP2515_RECORD_SIZE * i, MCP2515_RECORD_SIZE,
+                         out, MCP2515_ANSWER_SET_SIZE);
+}
+
 static void do_run_from(void)
 {
     mcp2515_run_from(chip, sizeof chip, records, sizeof records, out, sizeof out);
@@ -102,6 +109,7 @@ static const struct call {
     {"mcp2515_run_log", do_run_log},
     {"mcp2515_power_on", do_power_on},
     {"mcp2515_step", do_step},
+    {"mcp2515_step_set", do_step_set},
     {"mcp2515_run_from", do_run_from},
     {"mcp2515_hold", do_hold},
     {"mcp2515_read", do_read},
