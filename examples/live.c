@@ -1,8 +1,9 @@
 /*
  * A small firmware against a live chip. It sets the chip up, polls READ STATUS,
  * fetches what came by READ RX BUFFER and answers by LOAD TX BUFFER and RTS. The
- * bus does not wait for it: frames come between any two bytes. INT is looked at
- * after each step. Then a change from Normal to Configuration that a waiting
+ * bus does not wait for it: frames come between any two bytes. Every filter that
+ * matches a frame is told; the registers have the lowest one only. INT is looked
+ * at after each step. Then a change from Normal to Configuration that a waiting
  * message holds back, step by step.
  *
  * The program ends with status 1 if something is not as it has to be.
@@ -26,6 +27,7 @@ enum {
 };
 enum {
     RXF0SIDH = 0x00,
+    RXF2SIDH = 0x08,
     CANSTAT = 0x0E,
     CANCTRL = 0x0F,
     RXM0SIDH = 0x20,
@@ -38,7 +40,7 @@ enum {
     RXB0CTRL = 0x60
 };
 enum { NORMAL = 0x07, CONFIGURATION = 0x87, TXREQ = 0x08, BUKT = 0x04, RX0IE_RX1IE = 0x03 };
-enum { SIDH, SIDL, EID8, EID0, DLC, D0, MESSAGE = 13, NO_BUFFER = 3, FRAMES = 2 };
+enum { SIDH, SIDL, EID8, EID0, DLC, D0, MESSAGE = 13, NO_BUFFER = 3, FRAMES = 2, FILTERS = 6 };
 
 /* ---- the bench: a chip, the bus around it, and what was seen ---- */
 
@@ -93,16 +95,38 @@ static uint8_t simple_step(uint8_t kind, uint8_t byte1)
 
 /* ---- the bus ---- */
 
+/* Beside the answer a set: bit n for filter n. */
+static uint8_t frame_step(const uint8_t *record, uint8_t *set)
+{
+    uint8_t answer[MCP2515_ANSWER_SET_SIZE] = {0, 0, 0};
+    expect(mcp2515_step_set(bench.chip, sizeof bench.chip, record, MCP2515_RECORD_SIZE, answer,
+                            sizeof answer) == MCP2515_ANSWER_SET_SIZE,
+           "the call takes the frame");
+    expect(answer[0] == 0, "the chip takes the frame");
+    *set = answer[2];
+    return answer[1];
+}
+
+static void print_arrival(unsigned identifier, unsigned buffer, uint8_t set)
+{
+    printf("  bus: frame %03Xh arrives and lies in RXB%u; it matches", identifier, buffer);
+    for (unsigned n = 0; n < FILTERS; n++)
+        if (set >> n & 1)
+            printf(" RXF%u", n);
+    putchar('\n');
+}
+
 /* Frame n of another node: standard identifier 123h + n, two data bytes. */
 static void frame_arrives(unsigned n)
 {
     uint8_t record[MCP2515_RECORD_SIZE] = {FRAME, 0, 2, 0, 0, 0, 0x01, (uint8_t)(0x23 + n)};
     record[8] = (uint8_t)(0x10 + n);
     record[9] = 0x55;
-    uint8_t answer = step(record);
+    uint8_t set, answer = frame_step(record, &set);
     expect(answer == 1 || answer == 2, "the frame is stored");
+    expect(set == (n == 0 ? 0x01 : 0x05), "123h matches RXF0, 124h matches RXF2 too");
     if (bench.tells)
-        printf("  bus: frame %03Xh arrives and lies in RXB%d\n", 0x123 + n, answer - 1);
+        print_arrival(0x123 + n, answer - 1u, set);
     look_at_int();
     bench.arrived++;
 }
@@ -192,14 +216,16 @@ static uint8_t read_status(void)
 
 static void firmware_init(void)
 {
-    static const uint8_t mask[4] = {0xFF, 0x00}; /* the upper 8 of 11 bits count */
-    static const uint8_t filter[4] = {0x123 >> 3, 0x00};
+    /* For RXB0 the upper 8 of 11 bits count, for RXB1 all of them. */
+    static const uint8_t masks[8] = {0xFF, 0x00, 0, 0, 0xFF, 0xE0};
+    static const uint8_t group[4] = {0x120 >> 3}, single[4] = {0x124 >> 3, (0x124 & 7) << 5};
     select_low();
     exchange(RESET);
     select_high();
     expect(read_register(CANSTAT) == 0x80, "Configuration after RESET");
-    write_registers(RXM0SIDH, mask, sizeof mask);
-    write_registers(RXF0SIDH, filter, sizeof filter); /* 120h to 127h */
+    write_registers(RXM0SIDH, masks, sizeof masks);
+    write_registers(RXF0SIDH, group, sizeof group);   /* 120h to 127h */
+    write_registers(RXF2SIDH, single, sizeof single); /* 124h */
     write_register(CNF1, 0x00);
     write_register(CNF2, 0x90);
     write_register(CNF3, 0x02);

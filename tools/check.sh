@@ -325,5 +325,7 @@ say "--help, --version, bad arguments, --"
 
 # shellcheck source=tools/check_compare.sh
 . "$root/tools/check_compare.sh"
+# shellcheck source=tools/check_filters.sh
+. "$root/tools/check_filters.sh"
 
 echo "tool check: $tried groups passed"

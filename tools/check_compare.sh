@@ -21,18 +21,33 @@ bytes_of() {
     od -An -v -tx1 -w16 "$1"
 }
 
-# listing FIRST SECOND: what compare owes for two logs that it takes
+# listing FIRST SECOND PRINTED: what compare owes for two logs that it takes. The
+# replays tell the set of a frame. That of an own frame which Loopback stored or
+# lost they do not: it is taken as printed.
 listing() {
-    paste -d '|' <("$replay" "$1") <(bytes_of "$1") <("$replay" "$2") <(bytes_of "$2") | awk -F '|' '
-        $2 == "" { second++; next }
-        $4 == "" { first++; next }
-        { both = NR }
-        $1 != $3 || $2 != $4 {
-            split($1, a, " "); split($3, b, " ")
-            print NR, a[2], a[3], b[2], b[3]
+    paste -d '|' <("$replay" "$1") <(bytes_of "$1") <("$replay" "$2") <(bytes_of "$2") |
+        awk -F '|' -v printed="$3" '
+        function set(numbers, bytes, as_printed) {
+            return bytes ~ /^ 05/ && numbers[3] != 0 ? as_printed + 0 : numbers[4] + 0
         }
         function leftover(name, more) {
             print name " log: " more (more == 1 ? " more record" : " more records") ", from " both + 1
+        }
+        BEGIN {
+            while ((getline line <printed) > 0) {
+                split(line, p, " ")
+                in_first[p[1]] = p[6]; in_second[p[1]] = p[7]
+            }
+        }
+        $2 == "" { second++; next }
+        $4 == "" { first++; next }
+        {
+            both = NR
+            split($1, a, " "); split($3, b, " ")
+            s = set(a, $2, in_first[NR]); t = set(b, $4, in_second[NR])
+        }
+        a[2] != b[2] || a[3] != b[3] || s != t || $2 != $4 {
+            print NR, a[2], a[3], b[2], b[3], s, t
         }
         END {
             if (first) leftover("first", first)
@@ -53,18 +68,21 @@ place=$((30000 * 16))
 pairs=0 differences=0 leftovers=0
 # pair FIRST SECOND: both ways round, plain and with words
 pair() {
-    local wanted first second
+    local wanted got first second
     for _ in 1 2; do
         first=$1 second=$2
-        listing "$first" "$second" >"$work/want"
+        run compare "$first" "$second"
+        got=$?
+        [ ! -s "$work/err" ] || stop "compare $first $second: $(cat "$work/err")"
+        listing "$first" "$second" "$work/out" >"$work/want"
         wanted=0
         [ ! -s "$work/want" ] || wanted=1
-        compared "$wanted" "$first" "$second"
+        status "$wanted" "$got" "compare $first $second"
         same "$work/want" "$work/out" "compare $first $second"
         compared "$wanted" --words "$first" "$second"
         sed 's/^\([0-9 ]*\) # .*/\1/' "$work/out" >"$work/plain"
         same "$work/want" "$work/plain" "the numbers of compare --words $first $second"
-        [ "$(grep -c '^[0-9]* [0-9]* [0-9]* [0-9]* [0-9]* # [a-z][^|]* | [A-Za-z][^|]*$' "$work/out")" -eq \
+        [ "$(grep -cE '^[0-9]+( [0-9]+){6} # [a-z][^|]* \| [A-Za-z][^|]*$' "$work/out")" -eq \
             "$(grep -c '^[0-9]' "$work/want")" ] || stop "compare --words $first $second: a line without words"
         pairs=$((pairs + 1))
         differences=$((differences + $(grep -c '^[0-9]' "$work/want")))
@@ -290,7 +308,7 @@ status 2 $? "compare of three logs"
 message "compare of three logs" "^mcp2515: compare: one argument too many, '$five'\$"
 run compare --limit 1 --help
 status 0 $? "compare --help"
-for line in '^usage: mcp2515 compare ' '--words ' '--limit N ' '^Exit status: 0 .* 1 ' ' 2 for trouble'; do
+for line in '^usage: mcp2515 compare ' 'the set in FIRST, the set in SECOND' '--words ' '--limit N ' '^Exit status: 0 .* 1 ' ' 2 for trouble'; do
     grep -q -- "$line" "$work/out" || stop "compare --help: nothing like '$line'"
 done
 run --help
@@ -332,7 +350,7 @@ tells 'exchange FFh, data to BIT MODIFY 2Bh' 01 FF # WAKIE
 tells 'exchange 02h, past the instruction' 01 02
 step 02
 steps 02 0F 27 # Sleep
-tells 'frame extended 12345678h, remote, DLC 9: woke' 03 03 09 00 12 34 56 78
+tells 'frame standard 123h, remote, DLC 9: woke' 03 02 09 00 00 00 01 23
 tells 'select low' 00
 tells 'exchange C0h, RESET' 01 C0
 step 02; step 00
@@ -354,6 +372,7 @@ step 02
 tells 'frame standard 7FFh, DLC 0: not listening' 03 00 00 00 00 00 07 FF
 tells 'bus idle: no buffer goes' 04
 steps 02 60 60 # RXB0 takes any frame
+steps 02 24 FF E0 # mask 1: filters 2 to 5 take 000h, filters 0 and 1 any standard frame
 step 00
 tells 'exchange 02h, WRITE' 01 02
 tells 'exchange 0Fh, address to WRITE' 01 0F
@@ -361,6 +380,7 @@ tells 'exchange 07h, WRITE to 0Fh' 01 07 # Normal
 step 02
 tells 'bus idle: TXB2 goes' 04
 tells 'receive error, adds 1: refused, an own frame is in flight' 06
+tells 'frame standard 123h, DLC 0: refused, an own frame is in flight' 03 00 00 00 00 00 01 23
 tells 'own frame ends, arbitration lost' 05 01
 step 04
 tells 'own frame ends, error' 05 02
@@ -371,11 +391,11 @@ step 05
 tells 'bus idle: TXB0 goes' 04
 step 05
 tells 'own frame ends, sent: refused, no own frame is in flight' 05
-tells 'frame extended 12345678h, DLC 2, data 01 02: in RXB0' 03 01 02 00 12 34 56 78 01 02
-tells 'frame standard 123h, DLC 15, data 11 22 33 44 55 66 77 88: lost' 03 00 0F 00 00 00 01 23 11 22 33 44 55 66 77 88
+tells 'frame extended 12345678h, DLC 2, data 01 02: in RXB0, no filter' 03 01 02 00 12 34 56 78 01 02
+tells 'frame standard 123h, DLC 15, data 11 22 33 44 55 66 77 88: lost, filters 0 1' 03 00 0F 00 00 00 01 23 11 22 33 44 55 66 77 88
 steps 02 60 00 # RXB0 takes standard frames,
 steps 02 70 60 # RXB1 any
-tells 'frame extended 00000001h, remote, DLC 8: in RXB1' 03 03 08 00 00 00 00 01
+tells 'frame extended 12345678h, remote, DLC 9: in RXB1, no filter' 03 03 09 00 12 34 56 78
 steps 02 70 00
 tells 'frame extended 00000000h, DLC 8, data 00 00 00 00 00 00 00 00: no match' 03 01 08
 step 00
@@ -395,15 +415,15 @@ steps 02 0F 47 # Loopback
 steps 81
 step 04
 tells 'own frame ends, error: refused, in Loopback an own frame is always sent' 05 02
-tells 'own frame ends, sent: in RXB0' 05
+tells 'own frame ends, sent: in RXB0, filters 0 1 2 3 4 5' 05
 steps 02 32 08 # TXB0 has an extended frame
 steps 81; step 04
 tells 'own frame ends, sent: no match' 05
 steps 02 70 60 # RXB1 takes any frame
 steps 81; step 04
-tells 'own frame ends, sent: in RXB1' 05
+tells 'own frame ends, sent: in RXB1, no filter' 05
 steps 81; step 04
-tells 'own frame ends, sent: lost' 05
+tells 'own frame ends, sent: lost, no filter' 05
 
 # Beside a log of records that are all refused each record has a line.
 refused_words='bus-off recovery: refused, not bus-off'
@@ -425,13 +445,13 @@ say "compare --words: $(wc -l <"$work/told") records of all kinds, answers and r
 { record 04; record 04; record 01 20; record 03 01; session 02 0F 07; session 81; record 04; record 05; } >"$work/b.log"
 compared 1 --words "$work/a.log" "$work/b.log"
 cat >"$work/want" <<'END'
-1 0 0 0 3 # select low | bus idle: no buffer goes
-3 0 0 1 0 # exchange 40h, LOAD TX BUFFER | exchange 20h: refused, select is high
-4 0 4 0 4 # frame standard 000h, DLC 0 | frame extended 00000000h, DLC 0
-5 1 0 0 0 # select low: refused, select is low | taken
-8 0 0 0 0 # exchange 47h, WRITE to 33h | exchange 07h, WRITE to 0Fh
-13 0 3 0 0 # bus idle: no buffer goes | TXB0 goes
-14 4 0 0 0 # own frame ends, sent: refused, no own frame is in flight | taken
+1 0 0 0 3 0 0 # select low | bus idle: no buffer goes
+3 0 0 1 0 0 0 # exchange 40h, LOAD TX BUFFER | exchange 20h: refused, select is high
+4 0 4 0 4 0 0 # frame standard 000h, DLC 0 | frame extended 00000000h, DLC 0
+5 1 0 0 0 0 0 # select low: refused, select is low | taken
+8 0 0 0 0 0 0 # exchange 47h, WRITE to 33h | exchange 07h, WRITE to 0Fh
+13 0 3 0 0 0 0 # bus idle: no buffer goes | TXB0 goes
+14 4 0 0 0 0 0 # own frame ends, sent: refused, no own frame is in flight | taken
 END
 same "$work/want" "$work/out" "words of two records"
 say "compare --words: what both have is said once"

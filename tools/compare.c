@@ -76,7 +76,7 @@ static int compare(struct comparison *c)
 
 /* ---- printing ---- */
 
-static struct words words_of(struct log *log, size_t number, const uint8_t *answer)
+static struct words words_of(struct log *log, size_t number, const struct result *result)
 {
     struct words words;
     uint8_t ignored[MCP2515_ANSWER_SIZE];
@@ -85,7 +85,7 @@ static struct words words_of(struct log *log, size_t number, const uint8_t *answ
     for (; log->stepped < number - 1; log->stepped++)
         mcp2515_step(log->chip, sizeof log->chip, log->bytes + MCP2515_RECORD_SIZE * log->stepped,
                      MCP2515_RECORD_SIZE, ignored, sizeof ignored);
-    tell_record(&words, log->chip, log->bytes + MCP2515_RECORD_SIZE * (number - 1), answer);
+    tell_record(&words, log->chip, log->bytes + MCP2515_RECORD_SIZE * (number - 1), result);
     return words;
 }
 
@@ -110,14 +110,17 @@ static void print_words(const struct words *first, const struct words *second)
         printf(": %s", second->outcome);
 }
 
+/* An entry: the number in four bytes, both refusals with their answers, then both sets. */
 static void print_entry(struct comparison *c, const uint8_t *entry)
 {
     uint32_t number = four_bytes(entry);
-    const uint8_t *first = entry + 4, *second = first + MCP2515_ANSWER_SIZE;
-    printf("%" PRIu32 " %u %u %u %u", number, first[0], first[1], second[0], second[1]);
+    struct result first = {.refusal = entry[4], .answer = entry[5], .set = entry[8]};
+    struct result second = {.refusal = entry[6], .answer = entry[7], .set = entry[9]};
+    printf("%" PRIu32 " %u %u %u %u %u %u", number, first.refusal, first.answer, second.refusal,
+           second.answer, first.set, second.set);
     if (c->words) {
-        struct words in_first = words_of(&c->first, number, first);
-        struct words in_second = words_of(&c->second, number, second);
+        struct words in_first = words_of(&c->first, number, &first);
+        struct words in_second = words_of(&c->second, number, &second);
         print_words(&in_first, &in_second);
     }
     putchar('\n');
@@ -182,13 +185,16 @@ const struct subcommand compare_command = {
     .summary = "print the records in which two logs differ",
     .help = "usage: mcp2515 compare [--words] [--limit N] [--] FIRST SECOND\n\n"
             "Runs two logs (- for one of them is standard input) from power-on, each by a chip\n"
-            "of its own. Prints a line for each record number at which the record, its refusal\n"
-            "or its answer differ: the number from 1, refusal and answer in FIRST, refusal and\n"
-            "answer in SECOND. Where one log is longer, a last line says which, by how many\n"
+            "of its own. Prints a line for each record number at which the record, its refusal,\n"
+            "its answer or its set differ: the number from 1, refusal and answer in FIRST,\n"
+            "refusal and answer in SECOND, the set in FIRST, the set in SECOND. A set has the\n"
+            "filters that match a frame, bit n for filter n (5 is filters 0 and 2); for other\n"
+            "records it is 0. Where one log is longer, a last line says which, by how many\n"
             "records and from which number on. The logs are not lined up again: after a record\n"
             "that only one of them has, all others are compared one place off.\n\n"
             "  --words    behind a #, what the record is and what came of it, in FIRST | in\n"
-            "             SECOND; what both have is said once\n"
+            "             SECOND; what both have is said once. Of a frame that the chip listens\n"
+            "             to, or of its own in Loopback, the filters that match are named\n"
             "  --limit N  print at most N of the lines, then how many more there are\n\n"
             "Exit status: 0 where nothing differs and both logs are of one length; 1 where\n"
             "something differs or one is longer; 2 for trouble. A log that ends inside a record\n"

@@ -20,7 +20,7 @@ struct replay {
     bool refused_only;
 };
 
-/* A line is number, refusal, answer. */
+/* A line is number, refusal, answer, and behind them the set where the record is a frame. */
 static bool line_is_refused(const uint8_t *line, size_t length)
 {
     const uint8_t *refusal = memchr(line, ' ', length);
@@ -96,8 +96,10 @@ const struct subcommand replay_command = {
     .summary = "print number, refusal and answer of each record of a log",
     .help = "usage: mcp2515 replay [--refused] [--] [LOG]\n\n"
             "Replays LOG, or standard input where LOG is missing or -, from power-on.\n"
-            "Prints a line for each record: its number from 1, refusal, answer. Lines are\n"
-            "printed as the records come.\n\n"
+            "Prints a line for each record: its number from 1, refusal, answer. The line of a\n"
+            "frame (kind 3) has a fourth number, the set of the filters that match it, bit n for\n"
+            "filter n (5 is filters 0 and 2); it is 0 where the frame is refused, not listened to\n"
+            "or wakes the chip. Lines are printed as the records come.\n\n"
             "  --refused  print the lines of refused records only\n\n"
             "Exit status: 0; 1 where the log ended in refusal 6 (it ends inside a record) or\n"
             "8 (more than 65,535 records); 2 for trouble. Refused records change it not.\n",

@@ -109,8 +109,13 @@ struct words {
     char outcome[WORDS_ROOM]; /* what came of it; empty where it was taken and that is all */
 };
 
-/* The chip is the one before the record; answer has refusal and answer. */
+/* What the archive says of a record; set has a bit for each filter that matches. */
+struct result {
+    uint8_t refusal, answer, set;
+};
+
+/* The chip is the one before the record. */
 void tell_record(struct words *words, const uint8_t *chip, const uint8_t *record,
-                 const uint8_t *answer);
+                 const struct result *result);
 
 #endif

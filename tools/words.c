@@ -172,15 +172,42 @@ static bool in_loopback(const uint8_t *chip)
     return mcp2515_hold(chip, MCP2515_CHIP_SIZE, CANSTAT) >> 5 == LOOPBACK; /* OPMOD */
 }
 
-/* Where nothing is told the answer is 0. */
-static void tell_answer(char *text, const uint8_t *chip, uint8_t kind, uint8_t answer)
+static void add_filters(char *text, uint8_t set)
 {
-    static const char *const heard[] = {"no match", "in RXB0",       "in RXB1",
-                                        "lost",     "not listening", "woke"};
-    enum { HEARD = sizeof heard / sizeof *heard, NO_BUFFER = 3 };
-    bool is_heard = kind == FRAME || (kind == FRAME_ENDS && in_loopback(chip));
-    if (is_heard && answer < HEARD)
-        add(text, "%s", heard[answer]);
+    enum { FILTERS = 6 };
+    bool several = (set & (set - 1)) != 0;
+    if (set == 0) {
+        add(text, ", no filter");
+        return;
+    }
+    add(text, ", filter%s", several ? "s" : "");
+    for (unsigned n = 0; n < FILTERS; n++)
+        if (set >> n & 1)
+            add(text, " %u", n);
+}
+
+/* Of the filters nothing is said where none is asked, nor where "no match" says it. */
+static void tell_heard(char *text, uint8_t answer, uint8_t set)
+{
+    enum { NO_MATCH, IN_RXB0, IN_RXB1, LOST, NOT_LISTENING, WOKE, HEARD };
+    static const char *const heard[HEARD] = {
+        [NO_MATCH] = "no match", [IN_RXB0] = "in RXB0", [IN_RXB1] = "in RXB1",
+        [LOST] = "lost",         [WOKE] = "woke",       [NOT_LISTENING] = "not listening",
+    };
+    if (answer >= HEARD)
+        return;
+    add(text, "%s", heard[answer]);
+    if (answer < NOT_LISTENING && (set != 0 || answer != NO_MATCH))
+        add_filters(text, set);
+}
+
+/* Where nothing is told the answer is 0. */
+static void tell_answer(char *text, const uint8_t *chip, uint8_t kind, const struct result *result)
+{
+    enum { NO_BUFFER = 3 };
+    uint8_t answer = result->answer;
+    if (kind == FRAME || (kind == FRAME_ENDS && in_loopback(chip)))
+        tell_heard(text, answer, result->set);
     else if (kind == BUS_IDLE && answer < NO_BUFFER)
         add(text, "TXB%u goes", answer);
     else if (kind == BUS_IDLE)
@@ -190,9 +217,9 @@ static void tell_answer(char *text, const uint8_t *chip, uint8_t kind, uint8_t a
 }
 
 void tell_record(struct words *words, const uint8_t *chip, const uint8_t *record,
-                 const uint8_t *answer)
+                 const struct result *result)
 {
-    uint8_t refusal = answer[0];
+    uint8_t refusal = result->refusal;
     words->record[0] = words->outcome[0] = '\0';
     if (refusal == MCP2515_REFUSED_FIELD)
         tell_unsound(words->record, record);
@@ -201,5 +228,5 @@ void tell_record(struct words *words, const uint8_t *chip, const uint8_t *record
     if (refusal != 0)
         add(words->outcome, "refused, %s", refusal_reason(refusal, record[0]));
     else
-        tell_answer(words->outcome, chip, record[0], answer[1]);
+        tell_answer(words->outcome, chip, record[0], result);
 }
