@@ -138,11 +138,12 @@ struct sort {
     double limit; /* 0 for none */
 };
 
+/* Comparing works out the sets, and the runs that it is measured by do not. */
 static const struct sort sorts[] = {
     {"equal", copy_first, 1.3},
-    {"different", make_others, 2.3},
-    {"first rec.", change_first, 2.3},
-    {"last rec.", change_last, 2.3},
+    {"different", make_others, 2.5},
+    {"first rec.", change_first, 2.5},
+    {"last rec.", change_last, 2.5},
 };
 enum { SORTS = sizeof sorts / sizeof *sorts };
 
