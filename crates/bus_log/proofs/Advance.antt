@@ -13,8 +13,8 @@ use Rattle.records.specs.declared.Outcome.{Outcome}
 use Rattle.records.specs.Records.{recordOf}
 use Rattle.image.specs.Image.{imageSize, Answered}
 use Rattle.mcp2515.specs.declared.Stepped.{Stepped}
-use Rattle.mcp2515.specs.Step.{stepOf, outcome, askedOutcome, nextChip}
-use Rattle.mcp2515.specs.ChipImage.{chipOf, Moved, Advanced}
+use Rattle.mcp2515.specs.Step.{stepOf, outcome, nextChip}
+use Rattle.mcp2515.specs.ChipImage.{askedOutcome, chipOf, Moved, Advanced}
 use Rattle.bus_log.specs.Log.{recordSize, stepsOf, lastChip, allRefused, RefusedStay, answerBytes, answersOf}
 use Rattle.bus_log.specs.From.{RecordRun}
 use Rattle.bus_log.proofs.Steps.{one-step}

@@ -16,7 +16,13 @@ ghost use Rattle.bus_log.specs.Log.{
   answerBytes,
   answersOf,
 };
-ghost use Rattle.bus_log.specs.Run.{answerSize, answerRoom, runRefusal, runResult, runAnswers};
+ghost use Rattle.bus_log.specs.Run.{
+  answerSize,
+  answerRoom,
+  runRefusal,
+  runResult,
+  runAnswers,
+};
 ghost use Rattle.bus_log.specs.Held.{heldRefusal};
 ghost use Rattle.bus_log.specs.From.{RecordRun, RunningFrom};
 use image::SIZE;

@@ -19,11 +19,12 @@ use Rattle.registers.specs.declared.Control.{Control}
 use Rattle.registers.specs.declared.Core.{Core}
 use Rattle.registers.specs.State.{WAKIF, txNumber, isLoopback, withFlight, withControl}
 use Rattle.receiving.specs.declared.Reception.the-variants.{Woke}
-use Rattle.receiving.specs.Receiving.{askedSet, receivedOf, Reply, replyTo}
+use Rattle.receiving.specs.Receiving.{receivedOf}
+use Rattle.receiving.specs.Replies.{askedSet, Reply, replyTo, plainReply}
 use Rattle.image.specs.Image.{imageSize, modeOf, flightOf, decoded, controlOf, coreOf, Became, Acted, Answered}
 use Rattle.image.proofs.Laws.{flight-back, unmarked, mark-one, marked, followed}
 use Rattle.controller.specs.Sending.{endOf, frameAt}
-use Rattle.controller.specs.Events.{ignored, wokenControl, sleeping, heardIn, heardOf, plainReply, refusedOutcome, endsIn, endsBy, ended}
+use Rattle.controller.specs.Events.{ignored, wokenControl, sleeping, heardIn, heardOf, refusedOutcome, endsIn, endsBy, ended}
 
 -- ---- control registers changed and put back
 pub packed : {m n : List ℕ} {c d : Control} → length m ≡ imageSize → Acted m n (withControl (coreOf m) c) → c ≡ d → Became m n (withControl (coreOf m) d)

@@ -20,7 +20,8 @@ use Rattle.registers.specs.State.{WAKIF, MERRF, isNormal, isLoopback, isIdle, w
 use Rattle.registers.specs.Errors.{isBusOff, movedTo, recLess, recMore, noErrors}
 use Rattle.registers.specs.Modes.{entered, settled}
 use Rattle.receiving.specs.declared.Reception.the-variants.{NotListening, Woke}
-use Rattle.receiving.specs.Receiving.{receptionNumber, askedSet, Received, receivedOf, Reply}
+use Rattle.receiving.specs.Receiving.{receptionNumber, Received, receivedOf}
+use Rattle.receiving.specs.Replies.{askedSet, Reply}
 use Rattle.controller.specs.declared.End.{End}
 use Rattle.controller.specs.declared.End.the-variants.{Sent, LostArbitration, Failed}
 use Rattle.controller.specs.Sending.{choiceNumber, choiceOf, started, endOf, sentBy, endedBy, frameSent}
@@ -79,13 +80,6 @@ answered h = record { answer = receptionNumber (h .answer); matched = h .matched
 -- what an event tells that asks no filter
 abbrev pub plain : ℕ → Core → Happened
 plain n k = record { answer = n; matched = 0; core = k }
-
-abbrev pub plainReply : ℕ → Reply
-plainReply n = record { answer = n; matched = 0 }
-
--- answer and set, the set where it is asked for
-abbrev pub replyOf : Bool → Happened → Reply
-replyOf asked h = record { answer = h .answer; matched = askedSet asked (h .matched) }
 
 -- ---- kind 5: an own frame ends. Sent in Loopback, it comes back in by the receive rules, with its set, and no counter moves
 abbrev pub delivered : Core → TxBuffer → Happened
@@ -182,7 +176,10 @@ unfoldable pub eventOf : Core → List ℕ → Told
 eventOf k r =
     cond (eqb (eventRefusal (k .control) r) accepted) (toldOf (happensBy (kindOf r) k r)) (refusedBy (eventRefusal (k .control) r) k)
 
--- what an event tells beside the core, the set where it is asked for
+-- ---- what the code tells of an event, with the set where it is asked for
+abbrev pub replyOf : Bool → Happened → Reply
+replyOf asked h = record { answer = h .answer; matched = askedSet asked (h .matched) }
+
 abbrev pub outcomeTold : Bool → Told → Outcome
 outcomeTold asked t = record { refusal = t .refusal; answer = t .answer; matched = askedSet asked (t .matched) }
 

@@ -1,11 +1,12 @@
 // Bus events: when one is refused, its answer, and the core after it.
 ghost use mathlib.Core.Path.{_≡_};
-ghost use mathlib.Core.Bool.{cond, not, _&&_};
+ghost use mathlib.Core.Bool.{not, _&&_};
 ghost use lib.ListN.{length};
 ghost use Rattle.records.specs.Records.{recordOf};
 ghost use Rattle.registers.specs.State.{isNormal, isIdle, withControl};
 ghost use Rattle.registers.specs.Errors.{isBusOff, movedTo, recLess};
-ghost use Rattle.receiving.specs.Receiving.{receptionNumber, replyTo, replyIn};
+ghost use Rattle.receiving.specs.Receiving.{receptionNumber};
+ghost use Rattle.receiving.specs.Replies.{replyTo, replyIn, plainReply};
 ghost use Rattle.image.specs.Image.{
   imageSize,
   controlOf,
@@ -16,18 +17,14 @@ ghost use Rattle.image.specs.Image.{
   RefusedKept,
 };
 ghost use Rattle.controller.specs.Events.{
-  ignored,
   wokenControl,
   sleeping,
-  goodFrame,
   heardIn,
   heardOf,
-  plainReply,
   replyOf,
   delivered,
   finished,
   endsIn,
-  endsBy,
   ended,
   idled,
   errorAdds,

@@ -16,8 +16,8 @@ use Rattle.image.proofs.Laws.{slice-above, sets-kept, drop-sets, drop-past}
 use Rattle.spi.specs.Open.{Turned, Selected}
 use Rattle.mcp2515.specs.declared.Chip.{Chip}
 use Rattle.mcp2515.specs.declared.Stepped.{Stepped}
-use Rattle.mcp2515.specs.Step.{powerOn, stepOf, outcome, askedOutcome, nextChip}
-use Rattle.mcp2515.specs.ChipImage.{chipOf, Packed, Advanced}
+use Rattle.mcp2515.specs.Step.{powerOn, stepOf, outcome, nextChip}
+use Rattle.mcp2515.specs.ChipImage.{askedOutcome, chipOf, Packed, Advanced}
 
 -- ---- bytes copied one after the other
 pub sets-snoc : (m : List ℕ) (at : ℕ) (xs : List ℕ) (v : ℕ) → sets m at (xs ++ (v ∷ [])) ≡ set (sets m at xs) (at + length xs) v

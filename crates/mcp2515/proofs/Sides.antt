@@ -22,8 +22,8 @@ use Rattle.spi.specs.Open.{selectOf, Turned}
 use Rattle.spi.proofs.Turns.{became-lined, turned-by}
 use Rattle.mcp2515.specs.declared.Chip.{Chip}
 use Rattle.mcp2515.specs.declared.Stepped.{Stepped}
-use Rattle.mcp2515.specs.Step.{askedBy, asked, turnedBy, turned, spiStep, eventStep, stepOf, outcomeIn, outcome, askedOutcome, nextChip}
-use Rattle.mcp2515.specs.ChipImage.{Moved}
+use Rattle.mcp2515.specs.Step.{askedBy, asked, turnedBy, turned, spiStep, eventStep, stepOf, outcomeIn, outcome, nextChip}
+use Rattle.mcp2515.specs.ChipImage.{askedOutcome, Moved}
 use Rattle.mcp2515.proofs.Plain.{asked-plain, turned-plain}
 
 -- ---- kinds 0 to 2

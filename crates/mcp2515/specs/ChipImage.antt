@@ -1,10 +1,12 @@
 -- The chip that an image stands for, and what a call that is lent an image promises.
 use mathlib.Core.Path.{_≡_}
+use mathlib.Core.Bool.{Bool}
 use mathlib.Core.List.{List}
 use Prim.Native.Nat.{ℕ}
 use lib.ListN.{length, drop}
 use Rattle.records.specs.declared.Outcome.{Outcome}
 use Rattle.registers.specs.declared.Core.{Core}
+use Rattle.receiving.specs.Replies.{askedSet}
 use Rattle.image.specs.Image.{imageSize, coreOf}
 use Rattle.spi.specs.declared.Act.{Act}
 use Rattle.spi.specs.Instructions.{refusalOf, replyTo}
@@ -28,6 +30,10 @@ pub record Moved (m n : List ℕ) (c : Chip) : Type 0 where
 pub record Advanced (m n : List ℕ) (c : Chip) : Type 0 where
   pub image : length m ≡ imageSize → Moved m n c
   pub other : (length m ≡ imageSize → ⊥) → n ≡ m
+
+-- what the step tells of a record, with the set where it is asked for
+abbrev pub askedOutcome : Bool → Outcome → Outcome
+askedOutcome asked o = record { refusal = o .refusal; answer = o .answer; matched = askedSet asked (o .matched) }
 
 -- what an act of the SPI side tells
 abbrev pub actOutcome : Act → Core → Outcome

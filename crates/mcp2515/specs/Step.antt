@@ -1,13 +1,12 @@
 -- The step: any chip and any record of 16 bytes; and the run of a list of records.
 use Prim.Native.Nat.{ℕ}
-use mathlib.Core.Bool.{Bool, cond}
+use mathlib.Core.Bool.{cond}
 use mathlib.Core.List.{List, [], _∷_}
 use Rattle.records.specs.declared.Kind.{Kind}
 use Rattle.records.specs.declared.Kind.the-variants.{SelectLow, Exchange, SelectHigh, FrameHeard, BusIdle, FrameEnds, ReceiveError, Recovery, Unknown}
 use Rattle.records.specs.declared.Outcome.{Outcome}
 use Rattle.records.specs.Records.{refusedSelect, refusedField, byteAt, kindOf, isEvent, soundOf}
 use Rattle.registers.specs.Registers.{powerOnCore}
-use Rattle.receiving.specs.Receiving.{askedSet}
 use Rattle.controller.specs.Events.{eventOf}
 use Rattle.spi.specs.declared.Instruction.the-variants.{First}
 use Rattle.spi.specs.declared.Select.{Select}
@@ -90,10 +89,6 @@ outcomeIn s = record { refusal = s .refusal; answer = s .answer; matched = s .ma
 
 abbrev pub outcome : Chip → List ℕ → Outcome
 outcome c r = outcomeIn (stepOf c r)
-
--- its set where that is asked for, else 0
-abbrev pub askedOutcome : Bool → Outcome → Outcome
-askedOutcome wanted o = record { refusal = o .refusal; answer = o .answer; matched = askedSet wanted (o .matched) }
 
 unfoldable pub chipAfter : Chip → List (List ℕ) → Chip
 chipAfter c [] = c

@@ -8,16 +8,15 @@ ghost use Rattle.image.specs.Image.{imageSize, coreOf, Answered, RefusedKept};
 ghost use Rattle.controller.specs.Events.{notAnImage};
 ghost use Rattle.spi.specs.Instructions.{acted};
 ghost use Rattle.spi.specs.Open.{selectOf, Turned};
-ghost use Rattle.mcp2515.specs.Step.{
-  powerOn,
-  askedBy,
-  turnedBy,
-  stepOf,
-  outcome,
+ghost use Rattle.mcp2515.specs.Step.{powerOn, askedBy, turnedBy, stepOf, outcome, nextChip};
+ghost use Rattle.mcp2515.specs.ChipImage.{
   askedOutcome,
-  nextChip,
+  chipOf,
+  Moved,
+  Advanced,
+  actOutcome,
+  told,
 };
-ghost use Rattle.mcp2515.specs.ChipImage.{chipOf, Moved, Advanced, actOutcome, told};
 ghost use Rattle.mcp2515.specs.Promise.{Stepping};
 use crate::Chip;
 use crate::Stepped;

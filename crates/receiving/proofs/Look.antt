@@ -32,6 +32,12 @@ module _ (f : ℕ → Bool) (i e : ℕ) where
       let z : e - i ≡ 0 = omega arith in
       rw z
 
+-- ---- two tests that agree on the filters asked find the same one
+pub lowest-below : {f g : ℕ → Bool} (i n : ℕ) → ((k : ℕ) → k < i + n → f k ≡ g k) → lowestFrom f i n ≡ lowestFrom g i n
+unfolding lowestFrom
+lowest-below i zero e = refl
+lowest-below i (suc n) e = rw (e i (omega arith), lowest-below (suc i) n (λ k h. e k (omega arith)))
+
 -- ---- the filters lie in the first 48 bytes
 mask-low : (n : ℕ) → maskAt n ≤ 36
 mask-low n = go (ltb n 2)
@@ -52,12 +58,4 @@ module _ (m : List ℕ) (q : Key) where
       (word-take (maskAt n) (omega (arith, mask-low n))) (word-take (filterAt n) (omega arith))
 
   pub lowest-take : (i n : ℕ) → i + n ≤ 6 → lowestFrom (wordMatches (take 48 m) q) i n ≡ lowestFrom (wordMatches m q) i n
-  unfolding lowestFrom
-  lowest-take i zero h = refl
-  lowest-take i (suc n) h = rw (matches-take i (omega arith), lowest-take (suc i) n (omega arith))
-
--- ---- two tests that agree on the filters asked find the same one
-pub lowest-below : {f g : ℕ → Bool} (i n : ℕ) → ((k : ℕ) → k < i + n → f k ≡ g k) → lowestFrom f i n ≡ lowestFrom g i n
-unfolding lowestFrom
-lowest-below i zero e = refl
-lowest-below i (suc n) e = rw (e i (omega arith), lowest-below (suc i) n (λ k h. e k (omega arith)))
+  lowest-take i n h = lowest-below i n (λ k l. matches-take k (omega arith))

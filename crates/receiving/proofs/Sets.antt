@@ -1,11 +1,11 @@
 -- The set of the filters that match: its bits, and each buffer's hit in it. Assumes nothing.
 use mathlib.Core.Path.{_≡_, refl, sym, ap, _∙_}
-use mathlib.Core.Bool.{Bool, true, false, cond, not, _&&_, and-true, and-false}
+use mathlib.Core.Bool.{Bool, true, false, cond, not, and-true, and-false}
 use mathlib.Core.List.{List}
 use Prim.Native.Nat.{ℕ, zero, suc, _+_, _^_, _≤_, _<_}
 use native.Mathlib.Omega.{arith}
 use native.Mathlib.Numerals.{add-one}
-use lib.Bits.{bitAnd, bitOr, or-lt}
+use lib.Bits.{or-lt}
 use lib.Dec.{T, eqb, ltb, ltb→lt}
 use lib.ListN.{take}
 use borrow.Author.Tests.{eqb-true, eqb-false}
@@ -16,11 +16,8 @@ use Rattle.bits.proofs.Words.{has-and}
 use Rattle.records.specs.declared.Frame.{Frame}
 use Rattle.registers.specs.declared.RxBuffer.{RxBuffer}
 use Rattle.registers.specs.declared.RxBuffer.the-variants.{Rxb0, Rxb1}
-use Rattle.registers.specs.declared.Control.{Control}
-use Rattle.registers.specs.Registers.{rxControl}
 use Rattle.receiving.specs.declared.Key.{Key}
-use Rattle.receiving.specs.declared.Hit.the-variants.{Filter}
-use Rattle.receiving.specs.Receiving.{filters, setOf, matches, matchedOf, lowestFrom, lowestFor, takesAny, hitFor, shareOf, isMiss, SetBits, HitInSet, HitIsLowest}
+use Rattle.receiving.specs.Receiving.{filters, setOf, matches, matchedOf, lowestFrom, lowestFor, hitFor, shareOf, isMiss, SetBits, HitIsLowest}
 use Rattle.receiving.specs.Words.{keyOf, wordMatches}
 use Rattle.receiving.proofs.Look.{matches-take, lowest-below}
 use Rattle.receiving.proofs.Match.{matches-bitwise}

@@ -1,2 +1,3 @@
 pub mod Receiving
 pub mod Words
+pub mod Replies

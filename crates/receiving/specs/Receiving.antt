@@ -143,10 +143,6 @@ setOf matching (suc n) = cond (matching n) (setBit (setOf matching n) n) (setOf 
 unfoldable pub matchedOf : List ℕ → Frame → ℕ
 matchedOf config f = setOf (matches config f) filters
 
--- a set where it is asked for, else 0
-abbrev pub askedSet : Bool → ℕ → ℕ
-askedSet asked s = cond asked s 0
-
 -- ---- the hit
 -- the lowest-numbered of n filters from i on that matches, by a test for each
 unfoldable pub lowestFrom : (ℕ → Bool) → ℕ → ℕ → Hit
@@ -191,9 +187,6 @@ verdictOf c config f = verdictBy c (hitFor c (matches config f) Rxb0) (hitFor c 
 -- the match answer: the verdict, which has the hit, and the set
 unfoldable pub matchOf : Control → List ℕ → Frame → MatchAnswer
 matchOf c config f = record { verdict = verdictOf c config f; matched = matchedOf config f }
-
-abbrev pub askedMatch : Bool → MatchAnswer → MatchAnswer
-askedMatch asked m = record { verdict = m .verdict; matched = askedSet asked (m .matched) }
 
 abbrev pub receptionOf : Verdict → Reception
 receptionOf Unmatched = NoMatch
@@ -282,19 +275,6 @@ receivedBy m k f = record { core = coreAfter (m .verdict) k f; answer = receptio
 
 unfoldable pub receivedOf : Core → Frame → Received
 receivedOf k f = receivedBy (matchOf (k .control) (k .config) f) k f
-
--- ---- the answer by its number, and the set
-pub record Reply : Type 0 where
-  pub answer : ℕ
-  pub matched : ℕ
-
--- the set is told where it is asked for
-abbrev pub replyTo : Bool → Received → Reply
-replyTo asked x = record { answer = receptionNumber (x .answer); matched = askedSet asked (x .matched) }
-
--- both as one number, as the code has them: the set in the high byte
-abbrev pub replyIn : ℕ → Reply
-replyIn x = record { answer = x % 256; matched = x / 256 }
 
 -- ---- laws of the set, proved in proofs/Sets
 -- filter n is in the set just if it matches

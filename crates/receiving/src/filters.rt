@@ -11,12 +11,12 @@ ghost use Rattle.receiving.specs.Receiving.{
   maskAt,
   filters,
   setOf,
-  askedSet,
   lowestFrom,
   takesAny,
   lowestFor,
   hitFor,
 };
+ghost use Rattle.receiving.specs.Replies.{askedSet};
 use crate::Hit;
 use crate::Key;
 use image::RXB0CTRL;

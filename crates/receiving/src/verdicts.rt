@@ -12,16 +12,14 @@ ghost use Rattle.receiving.specs.Receiving.{
   verdict0,
   verdict1,
   verdictBy,
-  askedMatch,
   matchOf,
   receptionOf,
   hitBits,
   lostAt,
   controlAfter,
-  replyIn,
-  replyTo,
   receivedOf,
 };
+ghost use Rattle.receiving.specs.Replies.{askedMatch, replyIn, replyTo};
 use crate::Hit;
 use crate::Key;
 use crate::MatchAnswer;

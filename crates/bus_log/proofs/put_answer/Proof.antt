@@ -1,5 +1,5 @@
 use mathlib.Core.Path.{_≡_}
-use Prim.Native.Nat.{suc, _+_, _≤_}
+use Prim.Native.Nat.{suc, _+_}
 use native.Mathlib.Omega.{arith}
 use lib.ListN.{length-set}
 use borrow.Author.Needs.{needs}

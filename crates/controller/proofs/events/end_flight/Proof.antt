@@ -1,4 +1,4 @@
-use mathlib.Core.Path.{refl, ap, sym, _∙_}
+use mathlib.Core.Path.{ap, sym, _∙_}
 use Rattle.registers.specs.State.{isLoopback}
 use Rattle.receiving.proofs.Stored.{unchanged}
 use Rattle.controller.proofs.Acts.{ended-idle, ended-of, plainly}

@@ -1,4 +1,4 @@
-use mathlib.Core.Path.{refl, ap, _∙_}
+use mathlib.Core.Path.{ap, _∙_}
 use Rattle.registers.specs.declared.Control.{Control}
 use Rattle.controller.specs.Sending.{endedBy}
 use Rattle.controller.proofs.Acts.{packed}

@@ -1,5 +1,4 @@
 use Rattle.controller.specs.Events.{idled}
-use mathlib.Core.Path.{refl}
 use Rattle.records.specs.Records.{recordOf}
 use Rattle.receiving.proofs.Stored.{unchanged}
 use Rattle.controller.proofs.Acts.{plainly}

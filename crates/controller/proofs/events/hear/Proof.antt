@@ -1,5 +1,5 @@
 use Rattle.image.specs.Image.{coreOf}
-use mathlib.Core.Path.{refl, sym, _∙_}
+use mathlib.Core.Path.{sym, _∙_}
 use Rattle.registers.specs.declared.Mode.the-variants.{Normal, Sleep, Loopback, ListenOnly, Configuration}
 use Rattle.receiving.proofs.Stored.{unchanged}
 use Rattle.controller.proofs.Acts.{heard-by, plainly, asleep}

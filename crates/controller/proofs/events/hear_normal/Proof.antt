@@ -1,4 +1,4 @@
-use mathlib.Core.Path.{refl, sym, _∙_}
+use mathlib.Core.Path.{sym, _∙_}
 use Rattle.registers.specs.declared.Core.{Core}
 use Rattle.registers.specs.State.{withControl}
 use Rattle.registers.specs.Errors.{movedTo, recLess}

@@ -1,4 +1,4 @@
-use mathlib.Core.Path.{refl, sym, _∙_}
+use mathlib.Core.Path.{sym, _∙_}
 use Rattle.receiving.proofs.Stored.{unchanged}
 use Rattle.controller.proofs.Acts.{received, plainly}
 use borrow.Author.Needs.{needs}

@@ -1,5 +1,3 @@
-use Rattle.receiving.specs.Receiving.{Reply}
-use mathlib.Core.Path.{_≡_, refl}
 use borrow.Author.Needs.{needs}
 use Rattle.controller.proofs.events.plain.Statement.{statement}
 use Rattle.controller.proofs.events.plain.Tie as tie

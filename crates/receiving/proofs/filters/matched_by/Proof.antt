@@ -1,5 +1,5 @@
 -- The loop's invariant: the set so far is that of the filters passed. The measure is what is left of the filters.
-use mathlib.Core.Path.{_≡_, refl, sym}
+use mathlib.Core.Path.{_≡_, refl}
 use Prim.Native.Nat.{_≤_, _-_}
 use native.Mathlib.Omega.{arith}
 use borrow.Author.Needs.{needs}

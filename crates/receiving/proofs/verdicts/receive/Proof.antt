@@ -1,4 +1,4 @@
-use mathlib.Core.Path.{_≡_, refl, ap}
+use mathlib.Core.Path.{refl, ap}
 use Rattle.registers.specs.declared.Core.{Core}
 use Rattle.registers.specs.State.{withRxBytes}
 use Rattle.image.proofs.Laws.{followed, acted, passed, answered, unanswered}
