@@ -2,10 +2,11 @@
 #include <stdbool.h>
 
 #include "cases.h"
+#include "match.h"
 #include "model.h"
 #include "registers.h"
 
-enum { FILTERS = 6, OF_RXB0 = 0x03, OF_RXB1 = 0x3C, ALL = 0x3F };
+enum { FILTERS = MATCH_FILTERS, ALL = MATCH_OF_RXB0 | MATCH_OF_RXB1 };
 
 /* ---- filters, masks and frames ---- */
 
@@ -76,7 +77,7 @@ static void hear_refused(struct script *s, const struct sort *sort, uint8_t refu
 /* Both buffers free. */
 static uint8_t answer_to(uint8_t set)
 {
-    return set & OF_RXB0 ? RX_IN_RXB0 : set ? RX_IN_RXB1 : RX_UNMATCHED;
+    return set & MATCH_OF_RXB0 ? RX_IN_RXB0 : set ? RX_IN_RXB1 : RX_UNMATCHED;
 }
 
 static uint8_t lowest(uint8_t set)
@@ -106,7 +107,7 @@ static void every_set(struct script *s)
         sc_mode(AT, MODE_NORMAL);
         hear(AT, sort, answer_to(set), set);
         if (set != 0)
-            sc_read(AT, set & OF_RXB0 ? RXB0CTRL : RXB1CTRL, rxrtr | lowest(set));
+            sc_read(AT, set & MATCH_OF_RXB0 ? RXB0CTRL : RXB1CTRL, rxrtr | lowest(set));
         sc_write(AT, CANINTF, 0);
         sc_mode(AT, MODE_CONFIGURATION);
     }
@@ -123,16 +124,16 @@ static void two_masks(struct script *s)
         uint8_t set;
     } table[] = {
         {0x00000000, 0x00000000, 0x4DC, ALL},
-        {0x00000000, 0xFFFFFFFF, 0x4DC, OF_RXB0},
-        {0xFFFFFFFF, 0x00000000, 0x4DC, OF_RXB1},
+        {0x00000000, 0xFFFFFFFF, 0x4DC, MATCH_OF_RXB0},
+        {0xFFFFFFFF, 0x00000000, 0x4DC, MATCH_OF_RXB1},
         {0xFFFFFFFF, 0xFFFFFFFF, 0x4DC, 0},
         {0xFFFFFFFF, 0xFFFFFFFF, 0x123, ALL},
-        {0x80000000, 0x00200000, 0x523, OF_RXB1}, /* identifier bit 10 */
-        {0x80000000, 0x00200000, 0x122, OF_RXB0}, /* bit 0 */
-        {0x80000000, 0x00200000, 0x522, 0},       /* both */
-        {0x80000000, 0x00200000, 0x2DD, ALL},     /* all others */
-        {0x7FE00000, 0xFFC00000, 0x523, OF_RXB0},
-        {0x7FE00000, 0xFFC00000, 0x122, OF_RXB1},
+        {0x80000000, 0x00200000, 0x523, MATCH_OF_RXB1}, /* identifier bit 10 */
+        {0x80000000, 0x00200000, 0x122, MATCH_OF_RXB0}, /* bit 0 */
+        {0x80000000, 0x00200000, 0x522, 0},             /* both */
+        {0x80000000, 0x00200000, 0x2DD, ALL},           /* all others */
+        {0x7FE00000, 0xFFC00000, 0x523, MATCH_OF_RXB0},
+        {0x7FE00000, 0xFFC00000, 0x122, MATCH_OF_RXB1},
     };
     set_filters(AT, words);
     for (unsigned i = 0; i < sizeof table / sizeof *table; i++) {
@@ -212,11 +213,11 @@ static void data_bytes_under_two_masks(struct script *s)
     set_masks(AT, 0xFFE0FF00, 0xFFE000FF);
     sc_mode(AT, MODE_NORMAL);
     sc_frame(AT, 0, 0x123, 2, "\xA5\x00", RX_IN_RXB0);
-    sc_set(AT, OF_RXB0);
+    sc_set(AT, MATCH_OF_RXB0);
     sc_frame(AT, 0, 0x123, 2, "\x00\x5A", RX_IN_RXB1);
-    sc_set(AT, OF_RXB1);
+    sc_set(AT, MATCH_OF_RXB1);
     sc_frame(AT, 0, 0x123, 1, "\x00", RX_LOST); /* byte 1 is not there */
-    sc_set(AT, OF_RXB1);
+    sc_set(AT, MATCH_OF_RXB1);
     sc_frame(AT, 0, 0x123, 2, "\x00\x00", RX_UNMATCHED);
     sc_set(AT, 0);
 }
@@ -311,7 +312,8 @@ static void any_rxm(struct script *s)
                                    0x3C, 0x15, 0x2A, 0x3E, 0x3F};
     for (unsigned i = 0; i < 16 * sizeof sets; i++) {
         uint8_t set = sets[i / 16], rxm_0 = i % 16 / 4 << 5, rxm_1 = i % 4 << 5;
-        bool in_0 = rxm_0 == RXM || (set & OF_RXB0), in_1 = rxm_1 == RXM || (set & OF_RXB1);
+        bool in_0 = rxm_0 == RXM || (set & MATCH_OF_RXB0);
+        bool in_1 = rxm_1 == RXM || (set & MATCH_OF_RXB1);
         if (i % 16 == 0) {
             sc_mode(AT, MODE_CONFIGURATION);
             match(AT, standard.word, set);

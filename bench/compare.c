@@ -20,6 +20,7 @@
 #include "model.h"
 #include "registers.h"
 #include "script.h"
+#include "sets_met.h"
 #include "tidy.h"
 
 enum {
@@ -130,25 +131,9 @@ static void stop_at_record(const char *what, const uint8_t *log, size_t i, const
 
 /* ---- the same log record by record, with the sets ---- */
 
-enum { HEARD, SENT_IN_LOOPBACK, SOURCES };
-enum { NO_FILTER, ONE_FILTER, MORE_FILTERS, SET_SIZES };
 enum { OWN_IN_FLIGHT, NOT_LISTENING, WOKE, NOT_HEARD };
-enum { FILTERS = 6, OF_RXB0 = 0x03, OF_RXB1 = 0x3C };
 
-static unsigned long long sets_met[SOURCES][SET_SIZES], of_filter[FILTERS], of_both_buffers,
-    rxm_11[2], would_match[NOT_HEARD];
-
-/* A frame that the chip received. RXM is as it was: receiving does not change it. */
-static void count_received(const struct model *m, unsigned source, uint8_t set)
-{
-    unsigned size = set == 0 ? NO_FILTER : (set & (set - 1)) == 0 ? ONE_FILTER : MORE_FILTERS;
-    sets_met[source][size]++;
-    for (unsigned n = 0; n < FILTERS; n++)
-        of_filter[n] += set >> n & 1;
-    of_both_buffers += (set & OF_RXB0) && (set & OF_RXB1);
-    rxm_11[0] += (m->reg[RXB0CTRL] & RXM) == RXM && (set & OF_RXB0);
-    rxm_11[1] += (m->reg[RXB1CTRL] & RXM) == RXM && (set & OF_RXB1);
-}
+static unsigned long long sets_met[SETS_MET], would_match[NOT_HEARD];
 
 /* A frame that the chip did not receive, if filters would have matched it. */
 static void count_not_heard(const struct model *m, const uint8_t *record, const uint8_t *outcome)
@@ -163,19 +148,6 @@ static void count_not_heard(const struct model *m, const uint8_t *record, const 
         would_match[outcome[0] != REFUSED_NOT ? OWN_IN_FLIGHT
                     : outcome[1] == RX_WOKE   ? WOKE
                                               : NOT_LISTENING]++;
-}
-
-/* m is the chip after the record, loopback its mode before it. */
-static void count_set(const struct model *m, bool loopback, const uint8_t *record,
-                      const uint8_t *outcome)
-{
-    bool accepted = outcome[0] == REFUSED_NOT;
-    if (record[0] == KIND_FRAME && accepted && outcome[1] <= RX_LOST)
-        count_received(m, HEARD, outcome[2]);
-    else if (record[0] == KIND_FRAME)
-        count_not_heard(m, record, outcome);
-    else if (record[0] == KIND_FRAME_ENDS && accepted && loopback)
-        count_received(m, SENT_IN_LOOPBACK, outcome[2]);
 }
 
 static void stop_at_set(const char *what, const uint8_t *log, size_t i, uint8_t want, uint8_t got)
@@ -215,7 +187,8 @@ static void compare_sets(const uint8_t *log, size_t records, struct call *c)
         if (memcmp(c->answers + 2 * i, got, 2) != 0)
             stop_at_record("mcp2515_step_set answers otherwise than the whole log", log, i,
                            c->answers + 2 * i, got);
-        count_set(&m, loopback, record, got);
+        if (!count_set(sets_met, &m, loopback, record, got) && record[0] == KIND_FRAME)
+            count_not_heard(&m, record, got);
         sets[i] = got[2];
     }
     c->sets = sets;
@@ -233,26 +206,14 @@ static void demand(const char *what, unsigned long long count, unsigned long lon
 /* The least counts go with the length of the run. */
 static void demand_sets(unsigned long long records)
 {
-    static const char *const source_name[SOURCES] = {"frame heard", "own frame in Loopback"};
-    static const char *const size_name[SET_SIZES] = {"no filter", "one filter", "several filters"};
     static const char *const not_heard_name[NOT_HEARD] = {"during a flight", "not listening",
                                                           "woke"};
-    char text[64];
-    for (unsigned i = 0; i < SOURCES * SET_SIZES; i++) {
-        unsigned source = i / SET_SIZES, size = i % SET_SIZES;
-        snprintf(text, sizeof text, "%s, %s in the set", source_name[source], size_name[size]);
-        demand(text, sets_met[source][size], records / (source == HEARD ? 1000 : 5000));
-    }
-    for (unsigned n = 0; n < FILTERS; n++) {
-        snprintf(text, sizeof text, "set with filter %u", n);
-        demand(text, of_filter[n], records / 1000);
-    }
-    demand("set with filters of both buffers", of_both_buffers, records / 1000);
-    for (unsigned n = 0; n < 2; n++) {
-        snprintf(text, sizeof text, "set with filters of RXB%u, whose RXM is 11", n);
-        demand(text, rxm_11[n], records / 1000);
+    for (unsigned i = 0; i < SETS_MET; i++) {
+        bool own = i >= OWN_NO_FILTER && i <= OWN_MORE_FILTERS;
+        demand(set_met_name[i], sets_met[i], records / (own ? 5000 : 1000));
     }
     for (unsigned i = 0; i < NOT_HEARD; i++) {
+        char text[64];
         snprintf(text, sizeof text, "no set, %s, though filters match", not_heard_name[i]);
         demand(text, would_match[i], records / 10000);
     }

@@ -4,8 +4,6 @@
 #include "match.h"
 #include "registers.h"
 
-enum { OF_RXB0 = 0x03, OF_RXB1 = 0x3C };
-
 /* A frame at the filters, heard or not. */
 struct asked {
     const struct model *m; /* the chip before */
@@ -33,12 +31,12 @@ static uint8_t rxm(const struct model *m, uint8_t ctrl)
 /* For RXB0, by a filter or by RXM 11. */
 static bool is_for_rxb0(const struct asked *a)
 {
-    return (a->set & OF_RXB0) || rxm(a->m, RXB0CTRL) == RXM;
+    return (a->set & MATCH_OF_RXB0) || rxm(a->m, RXB0CTRL) == RXM;
 }
 
 static void several(struct cover *c, const struct asked *a)
 {
-    unsigned of_rxb0 = a->set & OF_RXB0, of_rxb1 = a->set & OF_RXB1;
+    unsigned of_rxb0 = a->set & MATCH_OF_RXB0, of_rxb1 = a->set & MATCH_OF_RXB1;
     count_if(c, a->set != lowest(a->set), COVER_SET_PAST_LOWEST);
     count_if(c, of_rxb0 != lowest(of_rxb0), COVER_SET_PAST_LOWEST_0);
     count_if(c, of_rxb1 != lowest(of_rxb1), COVER_SET_PAST_LOWEST_1);
@@ -54,7 +52,7 @@ static void whatever_becomes(struct cover *c, const struct asked *a)
     bool rolled = a->answer == RX_IN_RXB1 && is_for_rxb0(a);
     bool lost_0 = a->answer == RX_LOST && is_for_rxb0(a);
     bool bukt = a->m->reg[RXB0CTRL] & BUKT;
-    bool of_rxb0 = a->set & OF_RXB0, of_rxb1 = a->set & OF_RXB1;
+    bool of_rxb0 = a->set & MATCH_OF_RXB0, of_rxb1 = a->set & MATCH_OF_RXB1;
     count_if(c, a->answer == RX_IN_RXB0 && of_rxb1, COVER_SET_IN_RXB0);
     count_if(c, a->answer == RX_IN_RXB1 && !rolled && of_rxb1, COVER_SET_IN_RXB1);
     count_if(c, rolled && of_rxb0, COVER_SET_ROLLED_0);
@@ -89,7 +87,7 @@ static void own_frame(struct cover *c, const struct asked *a)
 static void by_rxm(struct cover *c, const struct asked *a)
 {
     static const uint8_t ctrl[2] = {RXB0CTRL, RXB1CTRL};
-    static const uint8_t share[2] = {OF_RXB0, OF_RXB1};
+    static const uint8_t share[2] = {MATCH_OF_RXB0, MATCH_OF_RXB1};
     bool any_0 = rxm(a->m, RXB0CTRL) == RXM, any_1 = rxm(a->m, RXB1CTRL) == RXM;
     for (unsigned i = 0; i < 2; i++)
         count_if(c, a->set & share[i], COVER_SET_RXM_00_0 + 2 * (rxm(a->m, ctrl[i]) >> 5) + i);

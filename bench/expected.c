@@ -1,10 +1,13 @@
 /*
  * Prints what the replay program has to print for a log file, by the second
- * model. With no argument the log comes from standard input.
+ * model; with --sets instead the set of each record, also where it has no place
+ * in the line. Without a file the log comes from standard input.
  *
- *   expected [log]
+ *   expected [--sets] [log]
  */
+#include <stdbool.h>
 #include <stdio.h>
+#include <string.h>
 
 #include "model.h"
 
@@ -38,14 +41,27 @@ static void print_lines(FILE *in)
     }
 }
 
+static void print_sets(FILE *in)
+{
+    struct model m;
+    uint8_t record[RECORD_BYTES], refusal, answer, set;
+    model_power_on(&m);
+    while (fread(record, 1, sizeof record, in) == sizeof record) {
+        model_step_set(&m, record, &refusal, &answer, &set);
+        printf("%u\n", set);
+    }
+}
+
 int main(int argc, char **argv)
 {
-    FILE *in = argc > 1 ? fopen(argv[1], "rb") : stdin;
+    bool sets = argc > 1 && strcmp(argv[1], "--sets") == 0;
+    const char *log = argv[1 + sets];
+    FILE *in = log ? fopen(log, "rb") : stdin;
     if (!in) {
-        perror(argv[1]);
+        perror(log);
         return 1;
     }
-    print_lines(in);
+    (sets ? print_sets : print_lines)(in);
     if (ferror(in)) {
         perror("reading the log");
         return 1;

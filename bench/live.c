@@ -18,6 +18,7 @@
 #include "gen.h"
 #include "match.h"
 #include "registers.h"
+#include "sets_met.h"
 
 enum {
     DEFAULT_RECORDS = 3000000,
@@ -45,10 +46,6 @@ static const char *const call_name[CALLS] = {"run_log",  "power_on", "step", "st
                                              "run_from", "hold",     "read", "int_is_low",
                                              "render",   "part_refusal"};
 
-/* Frames received, by where they come from and how many filters are in the set. */
-enum { HEARD, SENT_IN_LOOPBACK, SOURCES };
-enum { NO_FILTER, ONE_FILTER, MORE_FILTERS, SET_SIZES };
-
 /* Lines of a text that show a set, or look as if they would. */
 enum line {
     LINE_SET,
@@ -72,8 +69,8 @@ static unsigned long long resets[2];                      /* [1]: on random chip
 static unsigned long long int_lines[2], modes[MODES], opens[OPEN_SPENT + 1];
 static unsigned long long waits, flights, bus_offs, hidden, addresses, wrong_versions,
     wrong_lengths, random_chips, pieces, parts[REFUSALS];
-static unsigned long long sets[2][SOURCES][SET_SIZES]; /* [1]: of random chips */
-static unsigned long long of_filter[MATCH_FILTERS], of_both_buffers, rxm_11[2], lines[LINES];
+static unsigned long long sets_met[2][SETS_MET]; /* [1]: of random chips */
+static unsigned long long lines[LINES];
 static unsigned long long junk_decides[DECIDES][3]; /* SIDL bits 4, 3, 2 of mask and filter */
 static unsigned long long srr_decides[DECIDES];     /* SIDL bit 4 of the mask, not of the filter */
 static unsigned long long exide_decides[DECIDES][2]; /* by SIDL bit 3 of the mask */
@@ -138,18 +135,12 @@ static void demand_results(void)
 
 static void demand_sets(void)
 {
-    static const char *const source_name[SOURCES] = {"frame heard", "own frame in Loopback"};
-    static const char *const size_name[SET_SIZES] = {"no filter", "one filter", "several filters"};
-    char text[96];
-    for (unsigned i = 0; i < 2 * SOURCES * SET_SIZES; i++) {
-        unsigned random = i / (SOURCES * SET_SIZES), source = i / SET_SIZES % SOURCES;
-        snprintf(text, sizeof text, "%s, %s%s", source_name[source], size_name[i % SET_SIZES],
-                 random ? ", random chip" : "");
-        demand(text, sets[random][source][i % SET_SIZES]);
+    for (unsigned i = 0; i < 2 * SETS_MET; i++) {
+        unsigned random = i / SETS_MET, sort = i % SETS_MET;
+        char text[96];
+        snprintf(text, sizeof text, "%s%s", random ? "random chip: " : "", set_met_name[sort]);
+        demand(text, sets_met[random][sort]);
     }
-    demand_numbers("set with filter", of_filter, MATCH_FILTERS);
-    demand("set with filters of both buffers", of_both_buffers);
-    demand_numbers("set with filters of a buffer with RXM 11, RXB", rxm_11, 2);
 }
 
 static void demand_junk(void)
@@ -299,31 +290,6 @@ static void check_addresses(const struct pair *p)
         live_stop("a question changed the chip");
 }
 
-/* RXM is as it was before the frame: receiving does not change it. */
-static void count_received(const struct pair *p, unsigned source, uint8_t set)
-{
-    unsigned size = set == 0 ? NO_FILTER : (set & (set - 1)) == 0 ? ONE_FILTER : MORE_FILTERS;
-    unsigned of_rxb0 = set & 0x03, of_rxb1 = set & 0x3C;
-    sets[p->random][source][size]++;
-    for (unsigned n = 0; n < MATCH_FILTERS; n++)
-        of_filter[n] += set >> n & 1;
-    of_both_buffers += of_rxb0 && of_rxb1;
-    rxm_11[0] += (p->m.reg[RXB0CTRL] & RXM) == RXM && of_rxb0;
-    rxm_11[1] += (p->m.reg[RXB1CTRL] & RXM) == RXM && of_rxb1;
-}
-
-/* loopback: the mode before the record. */
-static void count_set(const struct pair *p, bool loopback, const uint8_t *record,
-                      const uint8_t *outcome)
-{
-    if (outcome[0] != REFUSED_NOT)
-        return;
-    if (record[0] == KIND_FRAME && outcome[1] <= RX_LOST)
-        count_received(p, HEARD, outcome[2]);
-    if (record[0] == KIND_FRAME_ENDS && loopback)
-        count_received(p, SENT_IN_LOOPBACK, outcome[2]);
-}
-
 /* One record by one of the calls, from the chip before; what it leaves goes to p. */
 static void step_by(const struct step_call *step, struct pair *p, const uint8_t *before,
                     const uint8_t *record, const uint8_t *want)
@@ -373,7 +339,7 @@ static void step_pair(struct pair *p, const uint8_t *record)
     }
     check_bytes(p, before, want[0] != REFUSED_NOT);
     check_int(p);
-    count_set(p, met.mode == MODE_LOOPBACK, record, want);
+    count_set(sets_met[p->random], &p->m, met.mode == MODE_LOOPBACK, record, want);
     refusals[p->random][want[0]]++;
     resets[p->random] += resets_it && want[0] == REFUSED_NOT;
 }

@@ -17,6 +17,9 @@
  * 16 of data bytes 0 and 1. */
 enum { MATCH_FILTERS = 6, MATCH_BITS = 29 + 11 + 16, MATCH_EXIDE = IDE << 16 };
 
+/* The shares of a set: RXB0 has filters 0 and 1, RXB1 has 2 to 5. */
+enum { MATCH_OF_RXB0 = 0x03, MATCH_OF_RXB1 = 0x3C };
+
 struct match_frame {
     uint32_t bits;    /* EXIDE among them, as the filter for it has it */
     uint32_t reached; /* those that the mask decides about */

@@ -143,7 +143,7 @@ static const struct sort sorts[] = {
     {"equal", copy_first, 1.3},
     {"different", make_others, 2.5},
     {"first rec.", change_first, 2.5},
-    {"last rec.", change_last, 2.5},
+    {"last rec.", change_last, 2.3},
 };
 enum { SORTS = sizeof sorts / sizeof *sorts };
 

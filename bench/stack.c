@@ -1,7 +1,8 @@
 /*
  * The stack that each call needs, by painting a thread's stack and looking
  * where the paint is gone; and the smallest stack limit with which the replay
- * program still runs, in steps of 4 KiB.
+ * program still runs, in steps of 4 KiB. All of it is shown; the status is 1 if
+ * something needs more than it may.
  *
  *   stack replay log
  */
@@ -20,6 +21,9 @@
 #include "mcp2515.h"
 
 enum { STACK = 1 << 20, PAINT = 0x5C, RECORDS = 4096, STEP_KIB = 4, MOST_KIB = 8192 };
+
+/* Comparing holds the answers of two blocks; replay its buffers, beside what the system needs. */
+enum { CALL_LIMIT = 1024, COMPARE_LIMIT = 9 * 1024, REPLAY_LIMIT_KIB = 160 };
 
 static uint8_t chip[MCP2515_CHIP_SIZE];
 static uint8_t records[RECORDS * MCP2515_RECORD_SIZE];
@@ -104,19 +108,20 @@ static void do_part_refusal(void)
 static const struct call {
     const char *name;
     void (*run)(void);
+    size_t limit; /* bytes */
 } calls[] = {
-    {"no call at all", do_nothing},
-    {"mcp2515_run_log", do_run_log},
-    {"mcp2515_power_on", do_power_on},
-    {"mcp2515_step", do_step},
-    {"mcp2515_step_set", do_step_set},
-    {"mcp2515_run_from", do_run_from},
-    {"mcp2515_hold", do_hold},
-    {"mcp2515_read", do_read},
-    {"mcp2515_int_is_low", do_int_is_low},
-    {"mcp2515_render", do_render},
-    {"mcp2515_part_refusal", do_part_refusal},
-    {"mcp2515_compare_logs", do_compare_logs},
+    {"no call at all", do_nothing, CALL_LIMIT},
+    {"mcp2515_run_log", do_run_log, CALL_LIMIT},
+    {"mcp2515_power_on", do_power_on, CALL_LIMIT},
+    {"mcp2515_step", do_step, CALL_LIMIT},
+    {"mcp2515_step_set", do_step_set, CALL_LIMIT},
+    {"mcp2515_run_from", do_run_from, CALL_LIMIT},
+    {"mcp2515_hold", do_hold, CALL_LIMIT},
+    {"mcp2515_read", do_read, CALL_LIMIT},
+    {"mcp2515_int_is_low", do_int_is_low, CALL_LIMIT},
+    {"mcp2515_render", do_render, CALL_LIMIT},
+    {"mcp2515_part_refusal", do_part_refusal, CALL_LIMIT},
+    {"mcp2515_compare_logs", do_compare_logs, COMPARE_LIMIT},
 };
 
 struct painted {
@@ -175,11 +180,24 @@ static void fill_records(const char *path)
     fclose(in);
 }
 
-static void measure_calls(void)
+static bool within(const char *what, size_t needs, size_t limit, const char *unit)
 {
+    if (needs <= limit)
+        return true;
+    fprintf(stderr, "%s: %zu %s of stack, more than the limit of %zu\n", what, needs, unit, limit);
+    return false;
+}
+
+static bool measure_calls(void)
+{
+    bool good = true;
     mcp2515_power_on(chip, sizeof chip);
-    for (size_t i = 0; i < sizeof calls / sizeof *calls; i++)
-        printf("%-22s %6zu bytes of stack\n", calls[i].name, stack_used(&calls[i]));
+    for (size_t i = 0; i < sizeof calls / sizeof *calls; i++) {
+        size_t used = stack_used(&calls[i]);
+        printf("%-22s %6zu bytes of stack\n", calls[i].name, used);
+        good &= within(calls[i].name, used, calls[i].limit, "bytes");
+    }
+    return good;
 }
 
 /* ---- the replay program ---- */
@@ -205,7 +223,7 @@ static bool replay_runs(const char *replay, const char *log, unsigned kib)
     return WIFEXITED(status) && WEXITSTATUS(status) == 0;
 }
 
-static void measure_replay(const char *replay, const char *log)
+static bool measure_replay(const char *replay, const char *log)
 {
     unsigned fails = 0, runs = MOST_KIB;
     if (!replay_runs(replay, log, MOST_KIB)) {
@@ -221,6 +239,7 @@ static void measure_replay(const char *replay, const char *log)
     }
     printf("the replay program runs with a stack limit of %u KiB, and not with %u KiB\n", runs,
            fails);
+    return within("the replay program", runs, REPLAY_LIMIT_KIB, "KiB");
 }
 
 int main(int argc, char **argv)
@@ -230,7 +249,6 @@ int main(int argc, char **argv)
         return 1;
     }
     fill_records(argv[2]);
-    measure_calls();
-    measure_replay(argv[1], argv[2]);
-    return 0;
+    bool calls_good = measure_calls(), replay_good = measure_replay(argv[1], argv[2]);
+    return calls_good && replay_good ? 0 : 1;
 }

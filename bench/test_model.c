@@ -464,7 +464,7 @@ static const char *broken_hit(const struct model *before, const struct outcome *
                               const struct model *after)
 {
     uint8_t ctrl_0 = before->reg[RXB0CTRL], ctrl_1 = before->reg[RXB1CTRL];
-    unsigned of_rxb0 = o->set & 0x03, of_rxb1 = o->set & 0x3C;
+    unsigned of_rxb0 = o->set & MATCH_OF_RXB0, of_rxb1 = o->set & MATCH_OF_RXB1;
     bool for_rxb0 = of_rxb0 || (ctrl_0 & RXM) == RXM, for_rxb1 = of_rxb1 || (ctrl_1 & RXM) == RXM;
     if ((o->answer == RX_UNMATCHED) != (!for_rxb0 && !for_rxb1))
         return "a frame is unmatched where its set is empty and no RXM is 11";
@@ -1483,6 +1483,19 @@ static struct rarest_met test_coverage(uint64_t seeds, bool show)
     return rarest;
 }
 
+static void tell(const struct rarest_met *rarest)
+{
+    printf("%zu fixed cases, %u tidied lists (event moved: %u) and the random logs agree\n",
+           case_count(), tidied_moved + tidied_stayed, tidied_moved);
+    printf("%u pairs of logs compared\n", pairs_compared);
+    printf("frames stored by source, form and length code: the rarest %lu times (%s)\n",
+           rarest->stored.count, rarest->stored.sort);
+    printf("corners of the match rule: the rarest decides %lu frames (%s)\n",
+           rarest->match.count, rarest->match.sort);
+    printf("%u sets by hand; corners of their rules: the rarest decides %lu (%s)\n", sets_by_hand,
+           rarest->set.count, rarest->set.sort);
+}
+
 int main(int argc, char **argv)
 {
     uint64_t seed = argc > 1 ? strtoull(argv[1], NULL, 0) : 2515;
@@ -1513,14 +1526,6 @@ int main(int argc, char **argv)
         printf("%u failures\n", failures);
         return 1;
     }
-    printf("%zu fixed cases, %u tidied lists (event moved: %u) and the random logs agree\n",
-           case_count(), tidied_moved + tidied_stayed, tidied_moved);
-    printf("%u pairs of logs compared\n", pairs_compared);
-    printf("frames stored by source, form and length code: the rarest %lu times (%s)\n",
-           rarest.stored.count, rarest.stored.sort);
-    printf("corners of the match rule: the rarest decides %lu frames (%s)\n", rarest.match.count,
-           rarest.match.sort);
-    printf("%u sets by hand; corners of their rules: the rarest decides %lu (%s)\n", sets_by_hand,
-           rarest.set.count, rarest.set.sort);
+    tell(&rarest);
     return 0;
 }

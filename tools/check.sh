@@ -5,7 +5,8 @@
 #
 #   tools/check.sh TOOL REPLAY
 #
-# Logs are those of bench/build/logs (make -C bench logs) and samples.
+# Logs are those of bench/build/logs and samples; `make -C bench logs` makes the former
+# and bench/build/expected, which tells sets by the second model.
 set -u
 tool=${1:?usage: tools/check.sh TOOL REPLAY} replay=${2:?usage: tools/check.sh TOOL REPLAY}
 root=$(cd "$(dirname "$0")/.." && pwd)

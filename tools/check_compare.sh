@@ -2,7 +2,8 @@
 # variables are from there.
 # shellcheck shell=bash disable=SC2154
 
-from_bench=$root/bench/build/logs
+from_bench=$root/bench/build/logs expected=$root/bench/build/expected
+[ -x "$expected" ] || stop "no $expected: make -C bench logs"
 five=$from_bench/five.log old=$root/samples/switchover-old.log new=$root/samples/switchover-new.log
 
 # compared WANTED ARGUMENT..: the status is as wanted, standard error is empty
@@ -14,40 +15,35 @@ compared() {
     [ ! -s "$work/err" ] || stop "compare $*: $(cat "$work/err")"
 }
 
-# ---- the listing, from two replays and the bytes of the records ----
+# ---- the listing, from two replays, the second model's sets and the bytes of the records ----
 
 # The bytes of a record on a line.
 bytes_of() {
     od -An -v -tx1 -w16 "$1"
 }
 
-# listing FIRST SECOND PRINTED: what compare owes for two logs that it takes. The
-# replays tell the set of a frame. That of an own frame which Loopback stored or
-# lost they do not: it is taken as printed.
+# outcomes LOG: the replay's lines with a fourth number, the set, on each. It is the
+# replay's own for a frame. For all other records, among them own frames which Loopback
+# receives, it is the second model's.
+outcomes() {
+    paste -d ' ' <("$replay" "$1") <("$expected" --sets "$1")
+}
+
+# listing FIRST SECOND: what compare owes for two logs that it takes
 listing() {
-    paste -d '|' <("$replay" "$1") <(bytes_of "$1") <("$replay" "$2") <(bytes_of "$2") |
-        awk -F '|' -v printed="$3" '
-        function set(numbers, bytes, as_printed) {
-            return bytes ~ /^ 05/ && numbers[3] != 0 ? as_printed + 0 : numbers[4] + 0
-        }
+    paste -d '|' <(outcomes "$1") <(bytes_of "$1") <(outcomes "$2") <(bytes_of "$2") |
+        awk -F '|' '
         function leftover(name, more) {
             print name " log: " more (more == 1 ? " more record" : " more records") ", from " both + 1
-        }
-        BEGIN {
-            while ((getline line <printed) > 0) {
-                split(line, p, " ")
-                in_first[p[1]] = p[6]; in_second[p[1]] = p[7]
-            }
         }
         $2 == "" { second++; next }
         $4 == "" { first++; next }
         {
             both = NR
             split($1, a, " "); split($3, b, " ")
-            s = set(a, $2, in_first[NR]); t = set(b, $4, in_second[NR])
         }
-        a[2] != b[2] || a[3] != b[3] || s != t || $2 != $4 {
-            print NR, a[2], a[3], b[2], b[3], s, t
+        a[2] != b[2] || a[3] != b[3] || a[4] != b[4] || $2 != $4 {
+            print NR, a[2], a[3], b[2], b[3], a[4], b[4]
         }
         END {
             if (first) leftover("first", first)
@@ -74,7 +70,7 @@ pair() {
         run compare "$first" "$second"
         got=$?
         [ ! -s "$work/err" ] || stop "compare $first $second: $(cat "$work/err")"
-        listing "$first" "$second" "$work/out" >"$work/want"
+        listing "$first" "$second" >"$work/want"
         wanted=0
         [ ! -s "$work/want" ] || wanted=1
         status "$wanted" "$got" "compare $first $second"
@@ -101,7 +97,7 @@ done
 pair "$old" "$new"
 [ "$differences" -gt 100000 ] || stop "the pairs have $differences differences, too few to show something"
 [ "$leftovers" -gt 10 ] || stop "the pairs have $leftovers leftovers, too few to show something"
-say "compare of $pairs pairs by the replays and the records: $differences differences, $leftovers leftovers"
+say "compare of $pairs pairs by the replays, the model's sets and the records: $differences differences, $leftovers leftovers"
 
 # nothing FIRST SECOND: no difference and no output
 nothing() {

@@ -93,7 +93,7 @@ static int run(int argc, char **argv)
 
 const struct subcommand replay_command = {
     .name = "replay",
-    .summary = "print number, refusal and answer of each record of a log",
+    .summary = "print each record's number, refusal and answer, and a frame's set",
     .help = "usage: mcp2515 replay [--refused] [--] [LOG]\n\n"
             "Replays LOG, or standard input where LOG is missing or -, from power-on.\n"
             "Prints a line for each record: its number from 1, refusal, answer. The line of a\n"

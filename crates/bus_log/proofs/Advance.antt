@@ -14,36 +14,36 @@ use Rattle.records.specs.Records.{recordOf}
 use Rattle.image.specs.Image.{imageSize, Answered}
 use Rattle.mcp2515.specs.declared.Stepped.{Stepped}
 use Rattle.mcp2515.specs.Step.{stepOf, outcome, nextChip}
-use Rattle.mcp2515.specs.ChipImage.{askedOutcome, chipOf, Moved, Advanced}
+use Rattle.mcp2515.specs.ChipImage.{wantedOutcome, chipOf, Moved, Advanced}
 use Rattle.bus_log.specs.Log.{recordSize, stepsOf, lastChip, allRefused, RefusedStay, answerBytes, answersOf}
 use Rattle.bus_log.specs.From.{RecordRun}
 use Rattle.bus_log.proofs.Steps.{one-step}
 
--- the image n and the answer bytes ys after the record r
-pub record Ran (m n r : List ℕ) (asked : Bool) (o : Outcome) : Type 0 where
+-- the image n after the record r, and what o tells of it
+pub record Ran (m n r : List ℕ) (wanted : Bool) (o : Outcome) : Type 0 where
   pub size : length n ≡ imageSize
   pub after : chipOf n ≡ stepOf (chipOf m) r .chip
   pub spare : drop 146 n ≡ drop 146 m
   pub refusal : o .refusal ≡ stepOf (chipOf m) r .refusal
-  pub bytes : answerBytes asked o ≡ answerBytes asked (outcome (chipOf m) r)
+  pub bytes : answerBytes wanted o ≡ answerBytes wanted (outcome (chipOf m) r)
 
 -- the bytes of an answer are the same, with the set left out or worked out where it is asked for
-asked-bytes : (asked : Bool) (o : Outcome) → answerBytes asked (askedOutcome asked o) ≡ answerBytes asked o
-asked-bytes true o = refl
-asked-bytes false o = refl
+wanted-bytes : (wanted : Bool) (o : Outcome) → answerBytes wanted (wantedOutcome wanted o) ≡ answerBytes wanted o
+wanted-bytes true o = refl
+wanted-bytes false o = refl
 
-pub ran : (m n : List ℕ) (f : Fields) (r : List ℕ) (asked : Bool) (o x : Outcome) → length m ≡ imageSize → recordOf f ≡ r
-    → Answered m o (askedOutcome asked (outcome (chipOf m) (recordOf f))) x → Advanced m n (nextChip (chipOf m) (recordOf f))
-    → Ran m n r asked o
-ran m n f r asked o x e p a v =
+pub ran : (m n : List ℕ) (f : Fields) (r : List ℕ) (wanted : Bool) (o x : Outcome) → length m ≡ imageSize → recordOf f ≡ r
+    → Answered m o (wantedOutcome wanted (outcome (chipOf m) (recordOf f))) x → Advanced m n (nextChip (chipOf m) (recordOf f))
+    → Ran m n r wanted o
+ran m n f r wanted o x e p a v =
     let w = v .image e in
-    subst (λ (l : List ℕ). Ran m n l asked o) p
+    subst (λ (l : List ℕ). Ran m n l wanted o) p
     (record {
       size = w .packed .size;
       after = w .packed .chip;
       spare = w .spare;
       refusal = ap (λ (y : Outcome). y .refusal) (a .image e);
-      bytes = ap (answerBytes asked) (a .image e) ∙ asked-bytes asked (outcome (chipOf m) (recordOf f));
+      bytes = ap (answerBytes wanted) (a .image e) ∙ wanted-bytes wanted (outcome (chipOf m) (recordOf f));
     })
 
 both : (a b : Bool) → a && b ≡ true → (a ≡ true) × (b ≡ true)

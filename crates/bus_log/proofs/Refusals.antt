@@ -9,10 +9,10 @@ use Rattle.bus_log.specs.Log.{recordSize, maxRecords, lengthRefusal, roo
 use Rattle.bus_log.specs.Run.{answerRoom, runRefusal}
 
 -- a log of size bytes that is not refused with these answer bytes
-pub record Accepted (asked : Bool) (size bytes : ℕ) : Type 0 where
+pub record Accepted (wanted : Bool) (size bytes : ℕ) : Type 0 where
   pub whole : size % recordSize ≡ 0
   pub count : recordsIn size ≤ maxRecords
-  pub room : answerRoom asked (recordsIn size) ≤ bytes
+  pub room : answerRoom wanted (recordsIn size) ≤ bytes
 
 -- a log of size bytes that is not refused by itself
 pub record Taken (size : ℕ) : Type 0 where
@@ -45,18 +45,18 @@ no-room : (z : Bool) → cond z roomRefusal 0 ≡ 0 → z ≡ false
 no-room true e = absurd (omega arith)
 no-room false e = refl
 
-pub accepted : (asked : Bool) (size bytes : ℕ) → runRefusal asked size bytes ≡ 0 → Accepted asked size bytes
+pub accepted : (wanted : Bool) (size bytes : ℕ) → runRefusal wanted size bytes ≡ 0 → Accepted wanted size bytes
 unfolding runRefusal
-accepted asked size bytes e =
+accepted wanted size bytes e =
     let both = neither (logRefusal size) _ e in
     let t = taken size (both .0) in
     record {
       whole = t .whole;
       count = t .count;
-      room = ltb-false bytes (answerRoom asked (recordsIn size)) (no-room (ltb bytes (answerRoom asked (recordsIn size))) (both .1));
+      room = ltb-false bytes (answerRoom wanted (recordsIn size)) (no-room (ltb bytes (answerRoom wanted (recordsIn size))) (both .1));
     }
 
-pub accepts : (asked : Bool) (size bytes : ℕ) → Accepted asked size bytes → runRefusal asked size bytes ≡ 0
+pub accepts : (wanted : Bool) (size bytes : ℕ) → Accepted wanted size bytes → runRefusal wanted size bytes ≡ 0
 unfolding runRefusal
-accepts asked size bytes a =
-    rw (takes size (record { whole = a .whole; count = a .count }), le-ltb bytes (answerRoom asked (recordsIn size)) (a .room))
+accepts wanted size bytes a =
+    rw (takes size (record { whole = a .whole; count = a .count }), le-ltb bytes (answerRoom wanted (recordsIn size)) (a .room))

@@ -17,15 +17,15 @@ use Rattle.bus_log.specs.Held.{heldRefusal, Held}
 
 -- the refusal: 21, then as the run from power-on
 abbrev pub fromRefusal : Bool → List ℕ → List ℕ → List ℕ → ℕ
-fromRefusal asked m log answers = heldRefusal m (runRefusal asked (length log) (length answers))
+fromRefusal wanted m log answers = heldRefusal m (runRefusal wanted (length log) (length answers))
 
 -- the result: the number of records, or minus the refusal
 unfoldable pub fromResult : Bool → List ℕ → List ℕ → List ℕ → ℤ
-fromResult asked m log answers = callResult (fromRefusal asked m log answers) (recordsIn (length log))
+fromResult wanted m log answers = callResult (fromRefusal wanted m log answers) (recordsIn (length log))
 
 -- the answer buffer after it, with the sets where they are asked for
 unfoldable pub fromAnswers : Bool → List ℕ → List ℕ → List ℕ → List ℕ
-fromAnswers asked m log answers = answersAfter asked (fromRefusal asked m log answers) (chipOf m) log answers
+fromAnswers wanted m log answers = answersAfter wanted (fromRefusal wanted m log answers) (chipOf m) log answers
 
 -- the chip after the records of a log
 abbrev pub chipFrom : Chip → List ℕ → Chip
@@ -50,18 +50,18 @@ FromPowerOn =
 -- A log a ++ b that is run from the chip m, with a cut between two records: a is run into the first of the answer bytes, and b
 -- into those behind them from n, in which the run of a left the chip. Neither is refused, the answers are those of the whole,
 -- and so is the chip at the end.
-pub record InParts (asked : Bool) (m n a b answers : List ℕ) : Type 0 where
-  pub first : fromRefusal asked m a (take (answerRoom asked (recordsIn (length a))) answers) ≡ 0
-  pub second : fromRefusal asked n b (drop (answerRoom asked (recordsIn (length a))) answers) ≡ 0
-  pub joined : fromAnswers asked m (a ++ b) answers
-      ≡ fromAnswers asked m a (take (answerRoom asked (recordsIn (length a))) answers)
-      ++ fromAnswers asked n b (drop (answerRoom asked (recordsIn (length a))) answers)
+pub record InParts (wanted : Bool) (m n a b answers : List ℕ) : Type 0 where
+  pub first : fromRefusal wanted m a (take (answerRoom wanted (recordsIn (length a))) answers) ≡ 0
+  pub second : fromRefusal wanted n b (drop (answerRoom wanted (recordsIn (length a))) answers) ≡ 0
+  pub joined : fromAnswers wanted m (a ++ b) answers
+      ≡ fromAnswers wanted m a (take (answerRoom wanted (recordsIn (length a))) answers)
+      ++ fromAnswers wanted n b (drop (answerRoom wanted (recordsIn (length a))) answers)
   pub end : chipFrom (chipOf m) (a ++ b) ≡ chipFrom (chipOf n) b
 
 abbrev pub RunsJoin : Type 0
 RunsJoin =
-    (asked : Bool) (m n a b answers : List ℕ) → length a % recordSize ≡ 0 → fromRefusal asked m (a ++ b) answers ≡ 0
-    → Held 0 m n (chipFrom (chipOf m) a) → InParts asked m n a b answers
+    (wanted : Bool) (m n a b answers : List ℕ) → length a % recordSize ≡ 0 → fromRefusal wanted m (a ++ b) answers ≡ 0
+    → Held 0 m n (chipFrom (chipOf m) a) → InParts wanted m n a b answers
 
 -- the first n records of a log
 unfoldable pub recordsOf : ℕ → List ℕ → List (List ℕ)
@@ -70,22 +70,22 @@ recordsOf (suc n) log = take recordSize log ∷ recordsOf n (drop recordSize log
 
 -- the answer bytes of each outcome
 unfoldable pub toldBytes : Bool → List Outcome → List ℕ
-toldBytes asked [] = []
-toldBytes asked (o ∷ os) = answerBytes asked o ++ toldBytes asked os
+toldBytes wanted [] = []
+toldBytes wanted (o ∷ os) = answerBytes wanted o ++ toldBytes wanted os
 
 -- the run of a log is that of its records, one step after the other
 abbrev pub RecordByRecord : Type 0
 RecordByRecord =
-    (asked : Bool) (n : ℕ) (c : Chip) (log : List ℕ)
-    → (answersOf asked (stepsOf n c log) ≡ toldBytes asked (outcomes c (recordsOf n log)))
+    (wanted : Bool) (n : ℕ) (c : Chip) (log : List ℕ)
+    → (answersOf wanted (stepsOf n c log) ≡ toldBytes wanted (outcomes c (recordsOf n log)))
     × (lastChip c (stepsOf n c log) ≡ chipAfter c (recordsOf n log))
 
 -- what the call promises of the chip m, the log and the answer buffer that it is lent, of n and after in which it leaves them, and
 -- of its result r
-pub record RunningFrom (asked : Bool) (m log answers n after : List ℕ) (r : ℤ) : Type 0 where
-  pub result : r ≡ fromResult asked m log answers
-  pub buffer : after ≡ fromAnswers asked m log answers
-  pub chip : Held (fromRefusal asked m log answers) m n (chipFrom (chipOf m) log)
+pub record RunningFrom (wanted : Bool) (m log answers n after : List ℕ) (r : ℤ) : Type 0 where
+  pub result : r ≡ fromResult wanted m log answers
+  pub buffer : after ≡ fromAnswers wanted m log answers
+  pub chip : Held (fromRefusal wanted m log answers) m n (chipFrom (chipOf m) log)
   -- a log of which the chip refuses each record changes no byte of it
   pub kept : RefusedStay (stepsOf (recordsIn (length log)) (chipOf m) log) m n
   pub power-on : FromPowerOn

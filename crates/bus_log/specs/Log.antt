@@ -69,9 +69,9 @@ RefusedStay ss m n = allRefused ss ≡ true → n ≡ m
 
 -- the bytes of an answer: refusal and answer, and where it is asked for the set
 abbrev pub answerBytes : Bool → Outcome → List ℕ
-answerBytes asked o = o .refusal ∷ o .answer ∷ cond asked (o .matched ∷ []) []
+answerBytes wanted o = o .refusal ∷ o .answer ∷ cond wanted (o .matched ∷ []) []
 
 -- .. of some steps
 unfoldable pub answersOf : Bool → List Stepped → List ℕ
-answersOf asked [] = []
-answersOf asked (s ∷ ss) = answerBytes asked (outcomeIn s) ++ answersOf asked ss
+answersOf wanted [] = []
+answersOf wanted (s ∷ ss) = answerBytes wanted (outcomeIn s) ++ answersOf wanted ss

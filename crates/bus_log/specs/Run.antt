@@ -11,15 +11,15 @@ use Rattle.bus_log.specs.Log.{roomRefusal, recordsIn, logRefusal, firstO
 
 -- the bytes of an answer: two, with the set three
 abbrev pub answerSize : Bool → ℕ
-answerSize asked = cond asked 3 2
+answerSize wanted = cond wanted 3 2
 
 -- .. of n records
 abbrev pub answerRoom : Bool → ℕ → ℕ
-answerRoom asked n = answerSize asked * n
+answerRoom wanted n = answerSize wanted * n
 
 -- the refusal of a log of size bytes with room for so many answer bytes: 6, then 8, then 7, else 0
 unfoldable pub runRefusal : Bool → ℕ → ℕ → ℕ
-runRefusal asked size room = firstOf (logRefusal size) (cond (ltb room (answerRoom asked (recordsIn size))) roomRefusal 0)
+runRefusal wanted size room = firstOf (logRefusal size) (cond (ltb room (answerRoom wanted (recordsIn size))) roomRefusal 0)
 
 -- what a call for C returns: minus the refusal, or where that is 0 its value
 abbrev pub callResult : ℕ → ℕ → ℤ
@@ -27,9 +27,9 @@ callResult refusal value = cond (ltb 0 refusal) (negℤ (pos refusal)) (pos valu
 
 -- the answer buffer after a run from the chip c: the answers and then what it held past them, or, refused, all that it held
 abbrev pub answersAfter : Bool → ℕ → Chip → List ℕ → List ℕ → List ℕ
-answersAfter asked refusal c log answers =
+answersAfter wanted refusal c log answers =
     cond (ltb 0 refusal) answers
-    (answersOf asked (stepsOf (recordsIn (length log)) c log) ++ drop (answerRoom asked (recordsIn (length log))) answers)
+    (answersOf wanted (stepsOf (recordsIn (length log)) c log) ++ drop (answerRoom wanted (recordsIn (length log))) answers)
 
 -- ---- from power-on, two bytes a record
 -- the result: the number of records, or minus the refusal

@@ -77,44 +77,44 @@ fn fields_within(log: &[u8], at: usize) -> Fields
 }
 
 // The bytes of an answer.
-pub fn answer_size(asked: bool) -> usize
-    ensures { λ r. ⌜ r ≡ answerSize asked ⌝ }
+pub fn answer_size(wanted: bool) -> usize
+    ensures { λ r. ⌜ r ≡ answerSize wanted ⌝ }
 {
-    if asked { ANSWER_SET_SIZE } else { ANSWER_SIZE }
+    if wanted { ANSWER_SET_SIZE } else { ANSWER_SIZE }
 }
 
-// Stores refusal and answer of a record at a place, and where it is asked for its set.
-fn put_answer(answers: &mut [u8], at: usize, told: Outcome, asked: bool)
-    requires { ⌜ at + answerSize asked ≤ length (now answers) ⌝ }
-    ensures { λ _. ⌜ now (answers .exit) ≡ sets (now (answers .entry)) at (answerBytes asked told) ⌝ }
+// Stores refusal and answer of a record at a place, and where it is wanted its set.
+fn put_answer(answers: &mut [u8], at: usize, told: Outcome, wanted: bool)
+    requires { ⌜ at + answerSize wanted ≤ length (now answers) ⌝ }
+    ensures { λ _. ⌜ now (answers .exit) ≡ sets (now (answers .entry)) at (answerBytes wanted told) ⌝ }
 {
     answers[at] = told.refusal;
     answers[at + 1] = told.answer;
-    if asked {
+    if wanted {
         answers[at + 2] = told.matched;
     }
 }
 
-// Runs count records over an image and stores refusal and answer of each, and its set where it is asked for.
+// Runs count records over an image and stores refusal and answer of each, and its set where the sets are wanted.
 fn run_records<'a>(
     image: &'a mut [u8],
     log: &'a [u8],
     answers: &'a mut [u8],
     count: usize,
-    asked: bool,
+    wanted: bool,
 )
-    requires { ⌜ (length (now image) ≡ imageSize) × (count * recordSize ≤ length (now log)) × (answerRoom asked count ≤ length (now answers)) ⌝ }
-    ensures { λ _. ⌜ now (answers .exit) ≡ sets (now (answers .entry)) 0 (answersOf asked (stepsOf count (chipOf (now (image .entry))) (now (log .entry)))) ⌝ }
+    requires { ⌜ (length (now image) ≡ imageSize) × (count * recordSize ≤ length (now log)) × (answerRoom wanted count ≤ length (now answers)) ⌝ }
+    ensures { λ _. ⌜ now (answers .exit) ≡ sets (now (answers .entry)) 0 (answersOf wanted (stepsOf count (chipOf (now (image .entry))) (now (log .entry)))) ⌝ }
     ensures { λ _. ⌜ Moved (now (image .entry)) (now (image .exit)) (lastChip (chipOf (now (image .entry))) (stepsOf count (chipOf (now (image .entry))) (now (log .entry)))) ⌝ }
     ensures { λ _. ⌜ RefusedStay (stepsOf count (chipOf (now (image .entry))) (now (log .entry))) (now (image .entry)) (now (image .exit)) ⌝ }
 {
-    let size = answer_size(asked);
+    let size = answer_size(wanted);
     let mut left = count;
     let mut at = 0;
     let mut out = 0;
     while left > 0 {
-        let told = mcp2515::step_in_place(image, fields_within(log, at), asked);
-        put_answer(answers, out, told, asked);
+        let told = mcp2515::step_in_place(image, fields_within(log, at), wanted);
+        put_answer(answers, out, told, wanted);
         at += RECORD_SIZE;
         out += size;
         left -= 1;
@@ -127,18 +127,10 @@ pub fn run_record<'a>(image: &'a mut [u8], record: &'a [u8]) -> Outcome
     ensures { λ o. ⌜ RecordRun (now (image .entry)) (now («record» .entry)) o (now (image .exit)) ⌝ }
 {
     if image.len() != SIZE {
-        return Outcome {
-            refusal: REFUSED_FIELD,
-            answer: 0,
-            matched: 0,
-        };
+        return records::refused(REFUSED_FIELD);
     }
     if record.len() != RECORD_SIZE {
-        return Outcome {
-            refusal: REFUSED_FIELD,
-            answer: 0,
-            matched: 0,
-        };
+        return records::refused(REFUSED_FIELD);
     }
     let mut told = [0u8; ANSWER_SET_SIZE];
     run_records(image, record, &mut told, 1, true);
@@ -170,10 +162,10 @@ pub fn log_refusal(size: usize) -> u8
 }
 
 // The same with room for so many answer bytes.
-fn run_refusal(size: usize, room: usize, asked: bool) -> u8
-    ensures { λ r. ⌜ r ≡ runRefusal asked size room ⌝ }
+fn run_refusal(size: usize, room: usize, wanted: bool) -> u8
+    ensures { λ r. ⌜ r ≡ runRefusal wanted size room ⌝ }
 {
-    let needed = answer_size(asked) * (size / RECORD_SIZE);
+    let needed = answer_size(wanted) * (size / RECORD_SIZE);
     let of_log = log_refusal(size);
     if of_log > 0 {
         return of_log;
@@ -203,17 +195,18 @@ pub fn minus(refusal: u8) -> i64
 }
 
 // Runs a log from the chip that is lent and leaves the chip after it there: stores refusal and answer of
-// each record and returns the number of records, or changes nothing and returns minus the refusal.
-pub fn run_from<'a>(chip: &'a mut [u8], log: &'a [u8], answers: &'a mut [u8], asked: bool) -> i64
-    ensures { λ r. ⌜ RunningFrom asked (now (chip .entry)) (now (log .entry)) (now (answers .entry)) (now (chip .exit)) (now (answers .exit)) r ⌝ }
+// each record, and its set where the sets are wanted, and returns the number of records, or changes nothing
+// and returns minus the refusal.
+pub fn run_from<'a>(chip: &'a mut [u8], log: &'a [u8], answers: &'a mut [u8], wanted: bool) -> i64
+    ensures { λ r. ⌜ RunningFrom wanted (now (chip .entry)) (now (log .entry)) (now (answers .entry)) (now (chip .exit)) (now (answers .exit)) r ⌝ }
 {
     let size = log.len();
-    let refusal = held_refusal(chip, run_refusal(size, answers.len(), asked));
+    let refusal = held_refusal(chip, run_refusal(size, answers.len(), wanted));
     if refusal > 0 {
         return minus(refusal);
     }
     let count = size / RECORD_SIZE;
-    run_records(chip, log, answers, count, asked);
+    run_records(chip, log, answers, count, wanted);
     count as i64
 }
 

@@ -1,6 +1,6 @@
 -- A block of records that is run, and the chip after some blocks. Assumes nothing.
 use mathlib.Core.Path.{_≡_, ap, sym, _∙_}
-use mathlib.Core.Bool.{true}
+use mathlib.Core.Bool.{Bool, true}
 use mathlib.Core.List.{List, _++_}
 use Prim.Native.Nat.{ℕ, zero, suc, _+_, _*_, _-_, _≤_}
 use native.Mathlib.Omega.{arith}
@@ -28,24 +28,24 @@ steps-taken k c log h =
     sym (steps-prefix k c (take (k * recordSize) log) (drop (k * recordSize) log) (omega arith))
     ∙ ap (λ (l : List ℕ). stepsOf k c l) (take-append-drop (k * recordSize) log)
 
-answers-run : (m log answers : List ℕ) → fromRefusal true m log answers ≡ 0
-    → fromAnswers true m log answers
-    ≡ answersOf true (stepsOf (recordsIn (length log)) (chipOf m) log) ++ drop (answerRoom true (recordsIn (length log))) answers
+answers-run : (wanted : Bool) (m log answers : List ℕ) → fromRefusal wanted m log answers ≡ 0
+    → fromAnswers wanted m log answers
+    ≡ answersOf wanted (stepsOf (recordsIn (length log)) (chipOf m) log) ++ drop (answerRoom wanted (recordsIn (length log))) answers
 unfolding fromAnswers
-answers-run m log answers none = rw none
+answers-run wanted m log answers none = rw none
 
 -- the call on the first count records of a log
-pub ran : (count : ℕ) (log m n told after : List ℕ) (r : ℤ) → isChip m ≡ true → count * recordSize ≤ length log → count ≤ maxRecords
-    → answerRoom true count ≤ length told → RunningFrom true m (take (count * recordSize) log) told n after r → Ran count log m n told after
-ran count log m n told after r is fits some room w =
+pub ran : (wanted : Bool) (count : ℕ) (log m n told after : List ℕ) (r : ℤ) → isChip m ≡ true → count * recordSize ≤ length log → count ≤ maxRecords
+    → answerRoom wanted count ≤ length told → RunningFrom wanted m (take (count * recordSize) log) told n after r → Ran wanted count log m n told after
+ran wanted count log m n told after r is fits some room w =
     let part = take (count * recordSize) log in
     let size : length part ≡ count * recordSize = length-take-le (count * recordSize) log fits in
     let records : recordsIn (length part) ≡ count = omega arith in
-    let none : fromRefusal true m part told ≡ 0 = held-none m _ is (accepts true (length part) (length told) (record { whole = omega arith; count = omega arith; room = omega arith })) in
+    let none : fromRefusal wanted m part told ≡ 0 = held-none m _ is (accepts wanted (length part) (length told) (record { whole = omega arith; count = omega arith; room = rw records room })) in
     let steps : stepsOf (recordsIn (length part)) (chipOf m) part ≡ stepsOf count (chipOf m) log = rw records (steps-taken count (chipOf m) log fits) in
     record {
       ahead = record { again = w .chip .again none; chip = w .chip .chip none ∙ ap (λ (ss : List Stepped). lastChip (chipOf m) ss) steps };
-      answers = w .buffer ∙ answers-run m part told none ∙ rw (steps, records);
+      answers = w .buffer ∙ answers-run wanted m part told none ∙ rw (steps, records);
     }
 
 -- the chip after two parts of a log

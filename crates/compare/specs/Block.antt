@@ -1,7 +1,7 @@
 -- What the code compares: answers as bytes, a block of records at a time, from the first record on that differs. Laws tie all of it to
 -- the list of differences. Assumes nothing: these are definitions.
 use mathlib.Core.Path.{_≡_}
-use mathlib.Core.Bool.{true, cond}
+use mathlib.Core.Bool.{Bool, true, cond}
 use mathlib.Core.List.{List, [], _∷_, _++_}
 use Prim.Native.Nat.{ℕ, zero, suc, _+_, _*_, _-_, _/_, _%_, _≤_}
 use lib.Dec.{ltb}
@@ -12,7 +12,7 @@ use Rattle.image.specs.Image.{isChip}
 use Rattle.mcp2515.specs.declared.Chip.{Chip}
 use Rattle.mcp2515.specs.ChipImage.{chipOf}
 use Rattle.bus_log.specs.Log.{recordSize, stepsOf, lastChip, answersOf}
-use Rattle.bus_log.specs.Run.{answerRoom}
+use Rattle.bus_log.specs.Run.{answerSize, answerRoom}
 use Rattle.compare.specs.declared.Compared.{Compared}
 use Rattle.compare.specs.Compare.{sameBytes, differs, Difference, itemIf, differencesFrom, differencesOf, entriesOf, entryRoom}
 
@@ -35,16 +35,16 @@ differencesIn zero before a told b other = []
 differencesIn (suc n) before a told b other =
     itemIf (differs (take recordSize a) (toldBy told) (take recordSize b) (toldBy other))
     (record { number = suc before; first = toldBy told; second = toldBy other })
-    (differencesIn n (suc before) (drop recordSize a) (drop 3 told) (drop recordSize b) (drop 3 other))
+    (differencesIn n (suc before) (drop recordSize a) (drop (answerSize true) told) (drop recordSize b) (drop (answerSize true) other))
 
 -- a run of the first count records of a log over the chip bytes m, left as n; `Ran`: with their answers stored in told, left as after
 pub record Ahead (count : ℕ) (log m n : List ℕ) : Type 0 where
   pub again : isChip n ≡ true
   pub chip : chipOf n ≡ lastChip (chipOf m) (stepsOf count (chipOf m) log)
 
-pub record Ran (count : ℕ) (log m n told after : List ℕ) : Type 0 where
+pub record Ran (wanted : Bool) (count : ℕ) (log m n told after : List ℕ) : Type 0 where
   pub ahead : Ahead count log m n
-  pub answers : after ≡ answersOf true (stepsOf count (chipOf m) log) ++ drop (answerRoom true count) told
+  pub answers : after ≡ answersOf wanted (stepsOf count (chipOf m) log) ++ drop (answerRoom wanted count) told
 
 -- an output that is empty, or has room for n entries
 abbrev pub HasRoom : ℕ → List ℕ → Type 0

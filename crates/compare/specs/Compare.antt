@@ -9,7 +9,7 @@ use lib.ListN.{length, take, drop}
 use Rattle.records.specs.declared.Outcome.{Outcome}
 use Rattle.mcp2515.specs.declared.Chip.{Chip}
 use Rattle.mcp2515.specs.Step.{powerOn, outcome, nextChip}
-use Rattle.bus_log.specs.Log.{recordSize, recordsIn, roomRefusal, logRefusal, firstOf, recordAt, stepsOf, lastChip}
+use Rattle.bus_log.specs.Log.{recordSize, recordsIn, roomRefusal, logRefusal, firstOf, recordAt, stepsOf, lastChip, answerBytes}
 use Rattle.bus_log.specs.Run.{callResult}
 
 -- ---- where they differ
@@ -58,13 +58,10 @@ differencesOf a b = differencesFrom (recordsInBoth a b) 0 powerOn powerOn a b
 abbrev pub fourBytes : ℕ → List ℕ
 fourBytes n = n / 0x1000000 % 256 ∷ n / 0x10000 % 256 ∷ n / 0x100 % 256 ∷ n % 256 ∷ []
 
--- refusal and answer
-abbrev pub twoBytes : Outcome → List ℕ
-twoBytes o = o .refusal ∷ o .answer ∷ []
-
 -- an entry: the number, refusal and answer of the first log, and of the second, the set of the first, and of the second
 abbrev pub entryOf : Difference → List ℕ
-entryOf d = fourBytes (d .number) ++ twoBytes (d .first) ++ twoBytes (d .second) ++ (d .first .matched ∷ d .second .matched ∷ [])
+entryOf d =
+    fourBytes (d .number) ++ answerBytes false (d .first) ++ answerBytes false (d .second) ++ (d .first .matched ∷ d .second .matched ∷ [])
 
 unfoldable pub entriesOf : List Difference → List ℕ
 entriesOf [] = []

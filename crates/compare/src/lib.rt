@@ -8,7 +8,7 @@ ghost use lib.Seq.{sets};
 ghost use Rattle.image.specs.Image.{isChip};
 ghost use Rattle.mcp2515.specs.ChipImage.{chipOf};
 ghost use Rattle.bus_log.specs.Log.{recordSize, maxRecords, logRefusal, firstOf, recordAt};
-ghost use Rattle.bus_log.specs.Run.{answerRoom, callResult};
+ghost use Rattle.bus_log.specs.Run.{answerSize, answerRoom, callResult};
 ghost use Rattle.compare.specs.Compare.{
   sameBytes,
   differencesFrom,
@@ -35,6 +35,7 @@ ghost use Rattle.compare.specs.Block.{
   comparedBy,
 };
 use bus_log::ANSWER_SET_SIZE;
+use bus_log::ANSWER_SIZE;
 use bus_log::RECORD_SIZE;
 use bus_log::ROOM_REFUSAL;
 use image::SIZE;
@@ -46,7 +47,9 @@ const ENTRY_SIZE: usize = 10;
 // in which it is fastest.
 const BLOCK: usize = 512;
 
-const BLOCK_ANSWERS: usize = ANSWER_SET_SIZE * BLOCK;
+const BLOCK_ANSWERS: usize = ANSWER_SIZE * BLOCK;
+
+const BLOCK_SETS: usize = ANSWER_SET_SIZE * BLOCK;
 
 // ---- records that are the same
 // Eight bytes as one number, low byte first.
@@ -91,25 +94,27 @@ fn agreeing<'a>(first: &'a [u8], second: &'a [u8], count: usize) -> usize
 }
 
 // ---- a block of records
-// Runs count records of a log, after the first before, over a chip, and stores their answers.
+// Runs count records of a log, after the first before, over a chip, and stores their answers, with the sets where
+// they are wanted.
 fn run_block<'a>(
     image: &'a mut [u8],
     log: &'a [u8],
     before: usize,
     count: usize,
     told: &'a mut [u8],
+    wanted: bool,
 )
-    requires { ⌜ (isChip (now image) ≡ true) × ((before + count) * recordSize ≤ length (now log)) × (count ≤ maxRecords) × (answerRoom true count ≤ length (now told)) ⌝ }
-    ensures { λ _. ⌜ Ran count (drop (before * recordSize) (now (log .entry))) (now (image .entry)) (now (image .exit)) (now (told .entry)) (now (told .exit)) ⌝ }
+    requires { ⌜ (isChip (now image) ≡ true) × ((before + count) * recordSize ≤ length (now log)) × (count ≤ maxRecords) × (answerRoom wanted count ≤ length (now told)) ⌝ }
+    ensures { λ _. ⌜ Ran wanted count (drop (before * recordSize) (now (log .entry))) (now (image .entry)) (now (image .exit)) (now (told .entry)) (now (told .exit)) ⌝ }
 {
     let at = before * RECORD_SIZE;
     let end = at + count * RECORD_SIZE;
-    bus_log::run_from(image, &log[at..end], told, true);
+    bus_log::run_from(image, &log[at..end], told, wanted);
 }
 
 // Refusal, answer and set at a place as one number, low byte first, so that one test compares all three.
 fn told_at(told: &[u8], at: usize) -> u32
-    requires { ⌜ at + 3 ≤ length (now told) ⌝ }
+    requires { ⌜ at + answerSize true ≤ length (now told) ⌝ }
     ensures { λ r. ⌜ (toldIn r ≡ toldBy (drop at (now (told .entry)))) × (r < 2 ^ 24) ⌝ }
 {
     records::joined(0, told[at + 2], told[at + 1], told[at])
@@ -188,7 +193,7 @@ fn run_ahead<'a>(image: &'a mut [u8], log: &'a [u8], count: usize)
     let mut done = 0;
     while left > 0 {
         let n = bus_log::least(left, BLOCK);
-        run_block(image, log, done, n, &mut told);
+        run_block(image, log, done, n, &mut told, false);
         done += n;
         left -= n;
     }
@@ -210,15 +215,15 @@ fn list<'a>(
 {
     let mut one = image;
     let mut two = image;
-    let mut told = [0u8; BLOCK_ANSWERS];
-    let mut other = [0u8; BLOCK_ANSWERS];
+    let mut told = [0u8; BLOCK_SETS];
+    let mut other = [0u8; BLOCK_SETS];
     let mut left = count;
     let mut done = before;
     let mut found = 0;
     while left > 0 {
         let n = bus_log::least(left, BLOCK);
-        run_block(&mut one, first, done, n, &mut told);
-        run_block(&mut two, second, done, n, &mut other);
+        run_block(&mut one, first, done, n, &mut told, true);
+        run_block(&mut two, second, done, n, &mut other, true);
         found = list_block(first, second, &told, &other, done, n, entries, found);
         done += n;
         left -= n;

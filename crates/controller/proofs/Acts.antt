@@ -10,7 +10,7 @@ use Rattle.bits.specs.Bit.{hasBit}
 use Rattle.records.specs.declared.Frame.{Frame}
 use Rattle.records.specs.declared.Fields.{Fields}
 use Rattle.records.specs.declared.Outcome.{Outcome}
-use Rattle.records.specs.Records.{accepted, kindBy, kindOf, recordOf}
+use Rattle.records.specs.Records.{accepted, refusedOutcome, kindBy, kindOf, recordOf}
 use Rattle.registers.specs.declared.Mode.{Mode}
 use Rattle.registers.specs.declared.TxBuffer.{TxBuffer}
 use Rattle.registers.specs.declared.Flight.{Flight}
@@ -20,31 +20,31 @@ use Rattle.registers.specs.declared.Core.{Core}
 use Rattle.registers.specs.State.{WAKIF, txNumber, isLoopback, withFlight, withControl}
 use Rattle.receiving.specs.declared.Reception.the-variants.{Woke}
 use Rattle.receiving.specs.Receiving.{receivedOf}
-use Rattle.receiving.specs.Replies.{askedSet, Reply, replyTo, plainReply}
+use Rattle.receiving.specs.AnswerSets.{wantedSet, AnswerSet, answerSetTo, plainAnswer}
 use Rattle.image.specs.Image.{imageSize, modeOf, flightOf, decoded, controlOf, coreOf, Became, Acted, Answered}
 use Rattle.image.proofs.Laws.{flight-back, unmarked, mark-one, marked, followed}
 use Rattle.controller.specs.Sending.{endOf, frameAt}
-use Rattle.controller.specs.Events.{ignored, wokenControl, sleeping, heardIn, heardOf, refusedOutcome, endsIn, endsBy, ended}
+use Rattle.controller.specs.Events.{ignored, wokenControl, sleeping, heardIn, heardOf, endsIn, endsBy, ended}
 
 -- ---- control registers changed and put back
 pub packed : {m n : List ℕ} {c d : Control} → length m ≡ imageSize → Acted m n (withControl (coreOf m) c) → c ≡ d → Became m n (withControl (coreOf m) d)
 packed e w p = rw p at (w .image e)
 
 -- ---- a frame received by an image n, which m has become
-pub received : {m n p : List ℕ} {k : Core} {r o : Reply} (asked : Bool) (f : Frame) → Became m n k
-    → Answered n r (replyTo asked (receivedOf (coreOf n) f)) o → Acted n p (receivedOf (coreOf n) f .core)
-    → (r ≡ replyTo asked (receivedOf k f)) × Became m p (receivedOf k f .core)
-received asked f w a b =
-    (a .image (w .size) ∙ ap (λ (k : Core). replyTo asked (receivedOf k f)) (w .core), followed (λ (k : Core). receivedOf k f .core) w (b .image (w .size)))
+pub received : {m n p : List ℕ} {k : Core} {r o : AnswerSet} (wanted : Bool) (f : Frame) → Became m n k
+    → Answered n r (answerSetTo wanted (receivedOf (coreOf n) f)) o → Acted n p (receivedOf (coreOf n) f .core)
+    → (r ≡ answerSetTo wanted (receivedOf k f)) × Became m p (receivedOf k f .core)
+received wanted f w a b =
+    (a .image (w .size) ∙ ap (λ (k : Core). answerSetTo wanted (receivedOf k f)) (w .core), followed (λ (k : Core). receivedOf k f .core) w (b .image (w .size)))
 
 -- an empty set is empty, asked for or not
-pub plainly : {r : Reply} {n : ℕ} (asked : Bool) → r ≡ plainReply n → r ≡ record { answer = n; matched = askedSet asked 0 }
+pub plainly : {r : AnswerSet} {n : ℕ} (wanted : Bool) → r ≡ plainAnswer n → r ≡ record { answer = n; matched = wantedSet wanted 0 }
 plainly true p = p
 plainly false p = p
 
-pub refusal-asked : (asked : Bool) (n : ℕ) → refusedOutcome n ≡ record { refusal = n; answer = 0; matched = askedSet asked 0 }
-refusal-asked true n = refl
-refusal-asked false n = refl
+pub refusal-wanted : (wanted : Bool) (n : ℕ) → refusedOutcome n ≡ record { refusal = n; answer = 0; matched = wantedSet wanted 0 }
+refusal-wanted true n = refl
+refusal-wanted false n = refl
 
 pub asleep : (k : Core) → sleeping k .matched ≡ 0
 asleep k = go (hasBit (k .control .flags .caninte) WAKIF)
@@ -54,7 +54,7 @@ asleep k = go (hasBit (k .control .flags .caninte) WAKIF)
     go false = refl
 
 -- what an accepted event tells
-abbrev pub acceptedOf : Reply → Outcome
+abbrev pub acceptedOf : AnswerSet → Outcome
 acceptedOf r = record { refusal = accepted; answer = r .answer; matched = r .matched }
 
 -- ---- the buffer in flight, by its number

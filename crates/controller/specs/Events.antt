@@ -8,7 +8,7 @@ use Rattle.records.specs.declared.Kind.{Kind}
 use Rattle.records.specs.declared.Kind.the-variants.{SelectLow, Exchange, SelectHigh, FrameHeard, BusIdle, FrameEnds, ReceiveError, Recovery, Unknown}
 use Rattle.records.specs.declared.Frame.{Frame}
 use Rattle.records.specs.declared.Outcome.{Outcome}
-use Rattle.records.specs.Records.{accepted, refusedField, refusedInFlight, refusedNoFlight, refusedState, byteAt, kindOf, frameOf, soundOf}
+use Rattle.records.specs.Records.{refusedOutcome, accepted, refusedField, refusedInFlight, refusedNoFlight, refusedState, byteAt, kindOf, frameOf, soundOf}
 use Rattle.registers.specs.declared.Mode.{Mode}
 use Rattle.registers.specs.declared.Mode.the-variants.{Normal, Sleep, Loopback, ListenOnly, Configuration}
 use Rattle.registers.specs.declared.Flight.{Flight}
@@ -21,7 +21,7 @@ use Rattle.registers.specs.Errors.{isBusOff, movedTo, recLess, recMore, noError
 use Rattle.registers.specs.Modes.{entered, settled}
 use Rattle.receiving.specs.declared.Reception.the-variants.{NotListening, Woke}
 use Rattle.receiving.specs.Receiving.{receptionNumber, Received, receivedOf}
-use Rattle.receiving.specs.Replies.{askedSet, Reply}
+use Rattle.receiving.specs.AnswerSets.{wantedSet, AnswerSet}
 use Rattle.controller.specs.declared.End.{End}
 use Rattle.controller.specs.declared.End.the-variants.{Sent, LostArbitration, Failed}
 use Rattle.controller.specs.Sending.{choiceNumber, choiceOf, started, endOf, sentBy, endedBy, frameSent}
@@ -177,15 +177,11 @@ eventOf k r =
     cond (eqb (eventRefusal (k .control) r) accepted) (toldOf (happensBy (kindOf r) k r)) (refusedBy (eventRefusal (k .control) r) k)
 
 -- ---- what the code tells of an event, with the set where it is asked for
-abbrev pub replyOf : Bool → Happened → Reply
-replyOf asked h = record { answer = h .answer; matched = askedSet asked (h .matched) }
+abbrev pub answerSetOf : Bool → Happened → AnswerSet
+answerSetOf wanted h = record { answer = h .answer; matched = wantedSet wanted (h .matched) }
 
 abbrev pub outcomeTold : Bool → Told → Outcome
-outcomeTold asked t = record { refusal = t .refusal; answer = t .answer; matched = askedSet asked (t .matched) }
-
--- a refusal by number
-abbrev pub refusedOutcome : ℕ → Outcome
-refusedOutcome n = record { refusal = n; answer = 0; matched = 0 }
+outcomeTold wanted t = record { refusal = t .refusal; answer = t .answer; matched = wantedSet wanted (t .matched) }
 
 -- bytes that are no image are told off as a field out of range
 abbrev pub notAnImage : Outcome

@@ -5,8 +5,7 @@ ghost use lib.ListN.{length};
 ghost use Rattle.records.specs.Records.{recordOf};
 ghost use Rattle.registers.specs.State.{isNormal, isIdle, withControl};
 ghost use Rattle.registers.specs.Errors.{isBusOff, movedTo, recLess};
-ghost use Rattle.receiving.specs.Receiving.{receptionNumber};
-ghost use Rattle.receiving.specs.Replies.{replyTo, replyIn, plainReply};
+ghost use Rattle.receiving.specs.AnswerSets.{answerSetTo, answerSetIn, plainAnswer};
 ghost use Rattle.image.specs.Image.{
   imageSize,
   controlOf,
@@ -21,7 +20,7 @@ ghost use Rattle.controller.specs.Events.{
   sleeping,
   heardIn,
   heardOf,
-  replyOf,
+  answerSetOf,
   delivered,
   finished,
   endsIn,
@@ -38,7 +37,6 @@ ghost use Rattle.controller.specs.Events.{
   refusalBy,
   eventRefusal,
   eventOf,
-  refusedOutcome,
   outcomeTold,
   notAnImage,
 };
@@ -71,9 +69,9 @@ use registers::Mode;
 use registers::TxBuffer;
 use registers::WAKIF;
 
-// A reply is an answer in the low byte, and in the high byte a set where one is asked for.
+// An answer stands in the low byte, and in the high byte a set where one is asked for.
 fn plain(answer: u8) -> u16
-    ensures { λ r. ⌜ replyIn r ≡ plainReply answer ⌝ }
+    ensures { λ r. ⌜ answerSetIn r ≡ plainAnswer answer ⌝ }
 {
     records::paired(answer, 0)
 }
@@ -117,67 +115,60 @@ fn count_good(image: &mut [u8])
     image[REC] = registers::heard_rec(image[REC]);
 }
 
-// The reply to a frame for which no filter is asked: its set is empty.
-fn unheard(reception: Reception) -> u16
-    ensures { λ r. ⌜ replyIn r ≡ plainReply (receptionNumber reception) ⌝ }
-{
-    plain(receiving::reception_number(reception))
-}
-
-fn hear_normal(image: &mut [u8], frame: Frame, asked: bool) -> u16
+fn hear_normal(image: &mut [u8], frame: Frame, wanted: bool) -> u16
     requires { ⌜ length (now image) ≡ imageSize ⌝ }
-    ensures { λ r. ⌜ replyIn r ≡ replyTo asked (heardIn Mode.Normal (coreOf (now (image .entry))) frame) ⌝ }
+    ensures { λ r. ⌜ answerSetIn r ≡ answerSetTo wanted (heardIn Mode.Normal (coreOf (now (image .entry))) frame) ⌝ }
     ensures { λ _. ⌜ Became (now (image .entry)) (now (image .exit)) (heardIn Mode.Normal (coreOf (now (image .entry))) frame .core) ⌝ }
 {
     if is_bus_off(image) {
-        return unheard(Reception::NotListening);
+        return receiving::unheard(Reception::NotListening);
     }
-    let reply = receiving::receive(image, frame, asked);
+    let told = receiving::receive(image, frame, wanted);
     count_good(image);
-    reply
+    told
 }
 
-fn hear_only(image: &mut [u8], frame: Frame, asked: bool) -> u16
+fn hear_only(image: &mut [u8], frame: Frame, wanted: bool) -> u16
     requires { ⌜ length (now image) ≡ imageSize ⌝ }
-    ensures { λ r. ⌜ replyIn r ≡ replyTo asked (heardIn Mode.ListenOnly (coreOf (now (image .entry))) frame) ⌝ }
+    ensures { λ r. ⌜ answerSetIn r ≡ answerSetTo wanted (heardIn Mode.ListenOnly (coreOf (now (image .entry))) frame) ⌝ }
     ensures { λ _. ⌜ Became (now (image .entry)) (now (image .exit)) (heardIn Mode.ListenOnly (coreOf (now (image .entry))) frame .core) ⌝ }
 {
     if is_bus_off(image) {
-        return unheard(Reception::NotListening);
+        return receiving::unheard(Reception::NotListening);
     }
-    receiving::receive(image, frame, asked)
+    receiving::receive(image, frame, wanted)
 }
 
-fn hear(image: &mut [u8], frame: Frame, asked: bool) -> u16
+fn hear(image: &mut [u8], frame: Frame, wanted: bool) -> u16
     requires { ⌜ length (now image) ≡ imageSize ⌝ }
-    ensures { λ r. ⌜ replyIn r ≡ replyTo asked (heardOf (coreOf (now (image .entry))) frame) ⌝ }
+    ensures { λ r. ⌜ answerSetIn r ≡ answerSetTo wanted (heardOf (coreOf (now (image .entry))) frame) ⌝ }
     ensures { λ _. ⌜ Became (now (image .entry)) (now (image .exit)) (heardOf (coreOf (now (image .entry))) frame .core) ⌝ }
 {
     let mode = image::mode_of(image[MODE]);
     match mode {
-        Mode::Normal => hear_normal(image, frame, asked),
-        Mode::Sleep => unheard(sleep(image)),
-        Mode::Loopback => unheard(Reception::NotListening),
-        Mode::ListenOnly => hear_only(image, frame, asked),
-        Mode::Configuration => unheard(Reception::NotListening),
+        Mode::Normal => hear_normal(image, frame, wanted),
+        Mode::Sleep => receiving::unheard(sleep(image)),
+        Mode::Loopback => receiving::unheard(Reception::NotListening),
+        Mode::ListenOnly => hear_only(image, frame, wanted),
+        Mode::Configuration => receiving::unheard(Reception::NotListening),
     }
 }
 
 // Loopback: the frame goes to the own receive rules.
-fn deliver(image: &mut [u8], buffer: TxBuffer, asked: bool) -> u16
+fn deliver(image: &mut [u8], buffer: TxBuffer, wanted: bool) -> u16
     requires { ⌜ length (now image) ≡ imageSize ⌝ }
-    ensures { λ r. ⌜ replyIn r ≡ replyOf asked (delivered (coreOf (now (image .entry))) buffer) ⌝ }
+    ensures { λ r. ⌜ answerSetIn r ≡ answerSetOf wanted (delivered (coreOf (now (image .entry))) buffer) ⌝ }
     ensures { λ _. ⌜ Became (now (image .entry)) (now (image .exit)) (delivered (coreOf (now (image .entry))) buffer .core) ⌝ }
 {
     let own = frame_sent(image, buffer);
     let control = image::control_of(image);
     image::put_control(image, sent(control, buffer));
-    receiving::receive(image, own, asked)
+    receiving::receive(image, own, wanted)
 }
 
 fn finish(image: &mut [u8], buffer: TxBuffer, outcome: End) -> u16
     requires { ⌜ length (now image) ≡ imageSize ⌝ }
-    ensures { λ r. ⌜ replyIn r ≡ plainReply 0 ⌝ }
+    ensures { λ r. ⌜ answerSetIn r ≡ plainAnswer 0 ⌝ }
     ensures { λ _. ⌜ Became (now (image .entry)) (now (image .exit)) (finished (coreOf (now (image .entry))) buffer outcome .core) ⌝ }
 {
     let control = image::control_of(image);
@@ -185,14 +176,14 @@ fn finish(image: &mut [u8], buffer: TxBuffer, outcome: End) -> u16
     plain(0)
 }
 
-fn finish_in(image: &mut [u8], loopback: bool, buffer: TxBuffer, outcome: End, asked: bool) -> u16
+fn finish_in(image: &mut [u8], loopback: bool, buffer: TxBuffer, outcome: End, wanted: bool) -> u16
     requires { ⌜ length (now image) ≡ imageSize ⌝ }
-    ensures { λ r. ⌜ replyIn r ≡ replyOf asked (endsIn loopback (coreOf (now (image .entry))) buffer outcome) ⌝ }
+    ensures { λ r. ⌜ answerSetIn r ≡ answerSetOf wanted (endsIn loopback (coreOf (now (image .entry))) buffer outcome) ⌝ }
     ensures { λ _. ⌜ Became (now (image .entry)) (now (image .exit)) (endsIn loopback (coreOf (now (image .entry))) buffer outcome .core) ⌝ }
 {
     if loopback {
         match outcome {
-            End::Sent => deliver(image, buffer, asked),
+            End::Sent => deliver(image, buffer, wanted),
             End::LostArbitration => finish(image, buffer, outcome),
             End::Failed => finish(image, buffer, outcome),
         }
@@ -201,16 +192,16 @@ fn finish_in(image: &mut [u8], loopback: bool, buffer: TxBuffer, outcome: End, a
     }
 }
 
-fn end_flight(image: &mut [u8], number: u8, asked: bool) -> u16
+fn end_flight(image: &mut [u8], number: u8, wanted: bool) -> u16
     requires { ⌜ length (now image) ≡ imageSize ⌝ }
-    ensures { λ r. ⌜ replyIn r ≡ replyOf asked (ended (coreOf (now (image .entry))) number) ⌝ }
+    ensures { λ r. ⌜ answerSetIn r ≡ answerSetOf wanted (ended (coreOf (now (image .entry))) number) ⌝ }
     ensures { λ _. ⌜ Became (now (image .entry)) (now (image .exit)) (ended (coreOf (now (image .entry))) number .core) ⌝ }
 {
     let flight = image::flight_of(image[FLIGHT]);
     let loopback = registers::is_loopback(image::mode_of(image[MODE]));
     match flight {
         Flight::Idle => plain(0),
-        Flight::Of(buffer) => finish_in(image, loopback, buffer, end_of(number), asked),
+        Flight::Of(buffer) => finish_in(image, loopback, buffer, end_of(number), wanted),
     }
 }
 
@@ -294,27 +285,27 @@ fn recover(image: &mut [u8]) -> u8
     0
 }
 
-fn hear_frame(image: &mut [u8], fields: Fields, asked: bool) -> u16
+fn hear_frame(image: &mut [u8], fields: Fields, wanted: bool) -> u16
     requires { ⌜ length (now image) ≡ imageSize ⌝ }
-    ensures { λ r. ⌜ replyIn r ≡ replyOf asked (happensBy Kind.FrameHeard (coreOf (now (image .entry))) (recordOf fields)) ⌝ }
+    ensures { λ r. ⌜ answerSetIn r ≡ answerSetOf wanted (happensBy Kind.FrameHeard (coreOf (now (image .entry))) (recordOf fields)) ⌝ }
     ensures { λ _. ⌜ Became (now (image .entry)) (now (image .exit)) (happensBy Kind.FrameHeard (coreOf (now (image .entry))) (recordOf fields) .core) ⌝ }
 {
-    hear(image, records::frame_of(fields), asked)
+    hear(image, records::frame_of(fields), wanted)
 }
 
 // An accepted event.
-fn happen(image: &mut [u8], kind: Kind, fields: Fields, asked: bool) -> u16
+fn happen(image: &mut [u8], kind: Kind, fields: Fields, wanted: bool) -> u16
     requires { ⌜ length (now image) ≡ imageSize ⌝ }
-    ensures { λ r. ⌜ replyIn r ≡ replyOf asked (happensBy kind (coreOf (now (image .entry))) (recordOf fields)) ⌝ }
+    ensures { λ r. ⌜ answerSetIn r ≡ answerSetOf wanted (happensBy kind (coreOf (now (image .entry))) (recordOf fields)) ⌝ }
     ensures { λ _. ⌜ Became (now (image .entry)) (now (image .exit)) (happensBy kind (coreOf (now (image .entry))) (recordOf fields) .core) ⌝ }
 {
     match kind {
         Kind::SelectLow => plain(0),
         Kind::Exchange => plain(0),
         Kind::SelectHigh => plain(0),
-        Kind::FrameHeard => hear_frame(image, fields, asked),
+        Kind::FrameHeard => hear_frame(image, fields, wanted),
         Kind::BusIdle => plain(idle(image)),
-        Kind::FrameEnds => end_flight(image, fields.field, asked),
+        Kind::FrameEnds => end_flight(image, fields.field, wanted),
         Kind::ReceiveError => plain(hear_error(image, fields.field)),
         Kind::Recovery => plain(recover(image)),
         Kind::Unknown => plain(0),
@@ -381,34 +372,24 @@ fn refuse(control: Control, fields: Fields) -> u8
     }
 }
 
-fn refused(refusal: u8) -> Outcome
-    ensures { λ r. ⌜ r ≡ refusedOutcome refusal ⌝ }
-{
-    Outcome {
-        refusal,
-        answer: 0,
-        matched: 0,
-    }
-}
-
 // One bus event: refused, it changes nothing. The set is worked out where it is asked for, else it is 0.
-pub fn event(image: &mut [u8], fields: Fields, asked: bool) -> Outcome
-    ensures { λ r. ⌜ Answered (now (image .entry)) r (outcomeTold asked (eventOf (coreOf (now (image .entry))) (recordOf fields))) notAnImage ⌝ }
+pub fn event(image: &mut [u8], fields: Fields, wanted: bool) -> Outcome
+    ensures { λ r. ⌜ Answered (now (image .entry)) r (outcomeTold wanted (eventOf (coreOf (now (image .entry))) (recordOf fields))) notAnImage ⌝ }
     ensures { λ _. ⌜ Acted (now (image .entry)) (now (image .exit)) (eventOf (coreOf (now (image .entry))) (recordOf fields) .core) ⌝ }
     ensures { λ r. ⌜ RefusedKept (r .refusal) (now (image .entry)) (now (image .exit)) ⌝ }
 {
     if image.len() != SIZE {
-        return refused(REFUSED_FIELD);
+        return records::refused(REFUSED_FIELD);
     }
     let refusal = refuse(image::control_of(image), fields);
     if refusal != ACCEPTED {
-        return refused(refusal);
+        return records::refused(refusal);
     }
-    let reply = happen(image, records::kind_by(fields.kind), fields, asked);
+    let told = happen(image, records::kind_by(fields.kind), fields, wanted);
     image::settle(image);
     Outcome {
         refusal: ACCEPTED,
-        answer: (reply % 256) as u8,
-        matched: (reply / 256) as u8,
+        answer: (told % 256) as u8,
+        matched: (told / 256) as u8,
     }
 }

@@ -17,7 +17,7 @@ use Rattle.spi.specs.Open.{Turned, Selected}
 use Rattle.mcp2515.specs.declared.Chip.{Chip}
 use Rattle.mcp2515.specs.declared.Stepped.{Stepped}
 use Rattle.mcp2515.specs.Step.{powerOn, stepOf, outcome, nextChip}
-use Rattle.mcp2515.specs.ChipImage.{askedOutcome, chipOf, Packed, Advanced}
+use Rattle.mcp2515.specs.ChipImage.{wantedOutcome, chipOf, Packed, Advanced}
 
 -- ---- bytes copied one after the other
 pub sets-snoc : (m : List ℕ) (at : ℕ) (xs : List ℕ) (v : ℕ) → sets m at (xs ++ (v ∷ [])) ≡ set (sets m at xs) (at + length xs) v
@@ -45,9 +45,6 @@ part-at m vs i n e h =
 
 pub part-below : (m vs : List ℕ) (i j n : ℕ) → j + n ≤ i → take n (drop j (sets m i vs)) ≡ take n (drop j m)
 part-below m vs i j n h = sets-kept (λ l. take n (drop j l)) (j + n) (λ l k v p. slice-above j n l k v p) m i vs h
-
-pub part-above : (m vs : List ℕ) (i j n : ℕ) → i + length vs ≤ j → take n (drop j (sets m i vs)) ≡ take n (drop j m)
-part-above m vs i j n h = ap (λ (l : List ℕ). take n l) (drop-past m j i vs h)
 
 -- ---- the chip that was put in
 pub packed-in : (z m n : List ℕ) (c : Chip) → length z ≡ imageSize → take 48 z ≡ c .core .config → take 48 (drop 48 z) ≡ c .core .tx
@@ -97,7 +94,7 @@ power-on-is-chip = refl
 
 -- ---- a chip put in, stepped in place and taken out
 pub stepped-back : (m n : List ℕ) (c d : Chip) (f : Fields) (r : List ℕ) (o x : Outcome) → Packed m c → recordOf f ≡ r
-    → Answered m o (askedOutcome true (outcome (chipOf m) (recordOf f))) x → Advanced m n (nextChip (chipOf m) (recordOf f)) → d ≡ chipOf n
+    → Answered m o (wantedOutcome true (outcome (chipOf m) (recordOf f))) x → Advanced m n (nextChip (chipOf m) (recordOf f)) → d ≡ chipOf n
     → record { chip = d; refusal = o .refusal; answer = o .answer; matched = o .matched } ≡ stepOf c r
 stepped-back m n c d f r o x p e a v q =
     let s : Stepped = stepOf (chipOf m) (recordOf f) in

@@ -23,7 +23,7 @@ use Rattle.spi.proofs.Turns.{became-lined, turned-by}
 use Rattle.mcp2515.specs.declared.Chip.{Chip}
 use Rattle.mcp2515.specs.declared.Stepped.{Stepped}
 use Rattle.mcp2515.specs.Step.{askedBy, asked, turnedBy, turned, spiStep, eventStep, stepOf, outcomeIn, outcome, nextChip}
-use Rattle.mcp2515.specs.ChipImage.{askedOutcome, Moved}
+use Rattle.mcp2515.specs.ChipImage.{wantedOutcome, Moved}
 use Rattle.mcp2515.proofs.Plain.{asked-plain, turned-plain}
 
 -- ---- kinds 0 to 2
@@ -136,14 +136,14 @@ pub told-as : (c : Chip) (r : List ℕ) {s : Stepped} {o : Outcome} → stepOf c
 told-as c r e p = p ∙ ap outcomeIn (sym e)
 
 -- .. with the set where it is asked for
-pub told-asked : (wanted : Bool) (c : Chip) (r : List ℕ) {s : Stepped} {o : Outcome} → stepOf c r ≡ s → o ≡ askedOutcome wanted (outcomeIn s)
-    → o ≡ askedOutcome wanted (outcome c r)
-told-asked wanted c r e p = p ∙ ap (λ (x : Stepped). askedOutcome wanted (outcomeIn x)) (sym e)
+pub told-wanted : (wanted : Bool) (c : Chip) (r : List ℕ) {s : Stepped} {o : Outcome} → stepOf c r ≡ s → o ≡ wantedOutcome wanted (outcomeIn s)
+    → o ≡ wantedOutcome wanted (outcome c r)
+told-wanted wanted c r e p = p ∙ ap (λ (x : Stepped). wantedOutcome wanted (outcomeIn x)) (sym e)
 
 -- a record of kind 0 to 2 has an empty set, asked for or not
-pub spi-asked : (wanted : Bool) (c : Chip) (f : Fields) {o : Outcome} → f .kind < 3 → o ≡ outcome c (recordOf f) → o ≡ askedOutcome wanted (outcome c (recordOf f))
-spi-asked true c f h p = p
-spi-asked false c f h p = p ∙ (λ i. record {
+pub spi-wanted : (wanted : Bool) (c : Chip) (f : Fields) {o : Outcome} → f .kind < 3 → o ≡ outcome c (recordOf f) → o ≡ wantedOutcome wanted (outcome c (recordOf f))
+spi-wanted true c f h p = p
+spi-wanted false c f h p = p ∙ (λ i. record {
   refusal = stepOf c (recordOf f) .refusal;
   answer = stepOf c (recordOf f) .answer;
   matched = spi-side c f h i .matched;

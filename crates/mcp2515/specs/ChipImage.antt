@@ -6,7 +6,7 @@ use Prim.Native.Nat.{ℕ}
 use lib.ListN.{length, drop}
 use Rattle.records.specs.declared.Outcome.{Outcome}
 use Rattle.registers.specs.declared.Core.{Core}
-use Rattle.receiving.specs.Replies.{askedSet}
+use Rattle.receiving.specs.AnswerSets.{wantedSet}
 use Rattle.image.specs.Image.{imageSize, coreOf}
 use Rattle.spi.specs.declared.Act.{Act}
 use Rattle.spi.specs.Instructions.{refusalOf, replyTo}
@@ -32,8 +32,8 @@ pub record Advanced (m n : List ℕ) (c : Chip) : Type 0 where
   pub other : (length m ≡ imageSize → ⊥) → n ≡ m
 
 -- what the step tells of a record, with the set where it is asked for
-abbrev pub askedOutcome : Bool → Outcome → Outcome
-askedOutcome asked o = record { refusal = o .refusal; answer = o .answer; matched = askedSet asked (o .matched) }
+abbrev pub wantedOutcome : Bool → Outcome → Outcome
+wantedOutcome wanted o = record { refusal = o .refusal; answer = o .answer; matched = wantedSet wanted (o .matched) }
 
 -- what an act of the SPI side tells
 abbrev pub actOutcome : Act → Core → Outcome

@@ -13,5 +13,5 @@ pub record Stepping (c : Chip) (r : List ℕ) (s : Stepped) : Type 0 where
   pub equal : s ≡ stepOf c r
   -- a refused record gets the answer 0 and an empty set, and the chip is as it was
   pub refused : (s .refusal ≡ accepted → ⊥) → (s .answer ≡ 0) × (s .matched ≡ 0) × (s .chip ≡ c)
-  -- the rules, whose next chip and answer are this very definition's, have demand 3
+  -- the rules, whose next chip, answer and set are this very definition's, have demand 3
   pub moment : Demand3

@@ -10,7 +10,7 @@ ghost use Rattle.spi.specs.Instructions.{acted};
 ghost use Rattle.spi.specs.Open.{selectOf, Turned};
 ghost use Rattle.mcp2515.specs.Step.{powerOn, askedBy, turnedBy, stepOf, outcome, nextChip};
 ghost use Rattle.mcp2515.specs.ChipImage.{
-  askedOutcome,
+  wantedOutcome,
   chipOf,
   Moved,
   Advanced,
@@ -65,16 +65,6 @@ pub fn int_is_low(chip: Chip) -> bool
     registers::int_is_low(control)
 }
 
-fn refuse(refusal: u8) -> Outcome
-    ensures { λ r. ⌜ r ≡ told refusal 0 ⌝ }
-{
-    Outcome {
-        refusal,
-        answer: 0,
-        matched: 0,
-    }
-}
-
 fn accept(answer: u8) -> Outcome
     ensures { λ r. ⌜ r ≡ told 0 answer ⌝ }
 {
@@ -95,7 +85,7 @@ fn step_low(image: &mut [u8]) -> Outcome
         spi::open(image);
         return accept(0);
     }
-    refuse(REFUSED_SELECT)
+    records::refused(REFUSED_SELECT)
 }
 
 fn step_exchange(image: &mut [u8], byte: u8) -> Outcome
@@ -105,7 +95,7 @@ fn step_exchange(image: &mut [u8], byte: u8) -> Outcome
     ensures { λ r. ⌜ RefusedKept (r .refusal) (now (image .entry)) (now (image .exit)) ⌝ }
 {
     if image[SELECT] == RAISED {
-        return refuse(REFUSED_SELECT);
+        return records::refused(REFUSED_SELECT);
     }
     accept(spi::exchange(image, byte))
 }
@@ -117,7 +107,7 @@ fn step_high(image: &mut [u8]) -> Outcome
     ensures { λ r. ⌜ RefusedKept (r .refusal) (now (image .entry)) (now (image .exit)) ⌝ }
 {
     if image[SELECT] == RAISED {
-        return refuse(REFUSED_SELECT);
+        return records::refused(REFUSED_SELECT);
     }
     spi::close(image);
     accept(0)
@@ -132,7 +122,7 @@ fn step_spi(image: &mut [u8], fields: Fields) -> Outcome
 {
     let number = fields.kind;
     if !records::is_sound_plain(records::kind_by(number), fields) {
-        return refuse(REFUSED_FIELD);
+        return records::refused(REFUSED_FIELD);
     }
     if number == 1 {
         return step_exchange(image, fields.field);
@@ -145,22 +135,18 @@ fn step_spi(image: &mut [u8], fields: Fields) -> Outcome
 
 // One record, where the chip lies: kinds 0 to 2 are of the SPI side, a bus event never looks at it. The set is worked out where it is asked
 // for. Bytes that are no image are refused as a field.
-pub fn step_in_place(image: &mut [u8], fields: Fields, asked: bool) -> Outcome
-    ensures { λ r. ⌜ Answered (now (image .entry)) r (askedOutcome asked (outcome (chipOf (now (image .entry))) (recordOf fields))) notAnImage ⌝ }
+pub fn step_in_place(image: &mut [u8], fields: Fields, wanted: bool) -> Outcome
+    ensures { λ r. ⌜ Answered (now (image .entry)) r (wantedOutcome wanted (outcome (chipOf (now (image .entry))) (recordOf fields))) notAnImage ⌝ }
     ensures { λ _. ⌜ Advanced (now (image .entry)) (now (image .exit)) (nextChip (chipOf (now (image .entry))) (recordOf fields)) ⌝ }
     ensures { λ r. ⌜ RefusedKept (r .refusal) (now (image .entry)) (now (image .exit)) ⌝ }
 {
     if image.len() != SIZE {
-        return Outcome {
-            refusal: REFUSED_FIELD,
-            answer: 0,
-            matched: 0,
-        };
+        return records::refused(REFUSED_FIELD);
     }
     if fields.kind < 3 {
         return step_spi(image, fields);
     }
-    controller::event(image, fields, asked)
+    controller::event(image, fields, wanted)
 }
 
 fn advance(chip: Chip, record: [u8; 16]) -> Stepped

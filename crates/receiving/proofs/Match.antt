@@ -23,11 +23,11 @@ use Rattle.receiving.specs.Words.{fourAt, keyBytes, reachBytes, keyOf, a
 use Rattle.receiving.proofs.Look.{lowest-below}
 use Rattle.receiving.proofs.Places.{top-kept, remote-lt, sidl, extendedBytes, extended-kept}
 
-is-true : (b : Bool) → T b → b ≡ true
+pub is-true : (b : Bool) → T b → b ≡ true
 is-true true t = refl
 is-true false t = absurd t
 
-is-false : (b : Bool) → T (not b) → b ≡ false
+pub is-false : (b : Bool) → T (not b) → b ≡ false
 is-false false t = refl
 is-false true t = absurd t
 

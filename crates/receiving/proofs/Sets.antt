@@ -1,26 +1,27 @@
 -- The set of the filters that match: its bits, and each buffer's hit in it. Assumes nothing.
 use mathlib.Core.Path.{_≡_, refl, sym, ap, _∙_}
-use mathlib.Core.Bool.{Bool, true, false, cond, not, and-true, and-false}
+use mathlib.Core.Bool.{Bool, true, false, cond, not, _&&_}
 use mathlib.Core.List.{List}
-use Prim.Native.Nat.{ℕ, zero, suc, _+_, _^_, _≤_, _<_}
+use Prim.Native.Nat.{ℕ, zero, suc, _+_, _%_, _^_, _≤_, _<_}
 use native.Mathlib.Omega.{arith}
 use native.Mathlib.Numerals.{add-one}
 use lib.Bits.{or-lt}
-use lib.Dec.{T, eqb, ltb, ltb→lt}
+use lib.Dec.{T, eqb, ltb, eqb→eq, ltb→lt}
 use lib.ListN.{take}
 use borrow.Author.Tests.{eqb-true, eqb-false}
-use Rattle.bits.specs.Bit.{hasBit, powerOf, setBit, sameAs}
-use Rattle.bits.proofs.All.{every}
+use Rattle.bits.specs.Bit.{hasBit, powerOf, setBit}
+use Rattle.bits.proofs.All.{and-left, and-right, every}
 use Rattle.bits.proofs.Laws.{has-set-same, has-set-other}
-use Rattle.bits.proofs.Words.{has-and}
 use Rattle.records.specs.declared.Frame.{Frame}
 use Rattle.registers.specs.declared.RxBuffer.{RxBuffer}
 use Rattle.registers.specs.declared.RxBuffer.the-variants.{Rxb0, Rxb1}
 use Rattle.receiving.specs.declared.Key.{Key}
+use Rattle.receiving.specs.declared.Hit.{Hit}
+use Rattle.receiving.specs.declared.Hit.the-variants.{Filter, Miss}
 use Rattle.receiving.specs.Receiving.{filters, setOf, matches, matchedOf, lowestFrom, lowestFor, hitFor, shareOf, isMiss, SetBits, HitIsLowest}
 use Rattle.receiving.specs.Words.{keyOf, wordMatches}
 use Rattle.receiving.proofs.Look.{matches-take, lowest-below}
-use Rattle.receiving.proofs.Match.{matches-bitwise}
+use Rattle.receiving.proofs.Match.{is-true, is-false, matches-bitwise}
 
 -- ---- two tests that agree below n give the same set
 pub set-same : {f g : ℕ → Bool} (n : ℕ) → ((i : ℕ) → i < n → f i ≡ g i) → setOf f n ≡ setOf g n
@@ -42,15 +43,11 @@ pub set-take : (m : List ℕ) (q : Key) → setOf (wordMatches (take 48 m) q) fi
 set-take m q = set-same filters (matches-take m q)
 
 -- ---- the bits of a set
-no-bit : (b : Bool) → T (not b) → b ≡ false
-no-bit false t = refl
-no-bit true t = absurd t
-
 module _ (f : ℕ → Bool) where
   -- none from n on
   bit-past : (n k : ℕ) → n ≤ k → k < 8 → hasBit (setOf f n) k ≡ false
   unfolding setOf
-  bit-past zero k h l = no-bit (hasBit 0 k) (every (λ k. not (hasBit 0 k)) 8 tt k l)
+  bit-past zero k h l = is-false (hasBit 0 k) (every (λ k. not (hasBit 0 k)) 8 tt k l)
   bit-past (suc n) k h l = go (f n) (bit-past n k (omega arith) l)
     where
       go : (b : Bool) → hasBit (setOf f n) k ≡ false → hasBit (cond b (setBit (setOf f n) n) (setOf f n)) k ≡ false
@@ -89,31 +86,42 @@ lowest-in : (f : ℕ → Bool) (b : RxBuffer) → lowestFor f b ≡ lowestFor (h
 lowest-in f Rxb0 = lowest-below 0 2 (λ n h. sym (set-bits f n (omega arith)))
 lowest-in f Rxb1 = lowest-below 2 4 (λ n h. sym (set-bits f n (omega arith)))
 
--- the bits of the other buffer's filters are not in its share
-share-lowest : (s : ℕ) (b : RxBuffer) → lowestFor (hasBit s) b ≡ lowestFrom (hasBit (shareOf b s)) 0 filters
-unfolding lowestFrom
-share-lowest s Rxb0 = sym (simp (has-and, and-true, and-false))
-share-lowest s Rxb1 = sym (simp (has-and, and-true, and-false))
+-- of every set: what a buffer finds is the lowest bit of its share, and nothing just if that is empty
+sound : RxBuffer → ℕ → Hit → Bool
+sound b s (Filter h) = hasBit (shareOf b s) h && eqb (shareOf b s % 2 ^ h) 0 && not (eqb (shareOf b s) 0)
+sound b s Miss = eqb (shareOf b s) 0
 
-missed : RxBuffer → ℕ → Bool
-missed b s = sameAs (isMiss (lowestFor (hasBit s) b)) (eqb (shareOf b s) 0)
+sound-all : (b : RxBuffer) (s : ℕ) → s < 64 → T (sound b s (lowestFor (hasBit s) b))
+unfolding sound lowestFrom
+sound-all Rxb0 s h = every (λ s. sound Rxb0 s (lowestFor (hasBit s) Rxb0)) 64 tt s h
+sound-all Rxb1 s h = every (λ s. sound Rxb1 s (lowestFor (hasBit s) Rxb1)) 64 tt s h
 
-same-bool : (x y : Bool) → T (sameAs x y) → x ≡ y
-same-bool true true t = refl
-same-bool false false t = refl
-same-bool true false t = absurd t
-same-bool false true t = absurd t
+module _ (b : RxBuffer) (s : ℕ) where
+  sound-bit : (h : ℕ) → T (sound b s (Filter h)) → hasBit (shareOf b s) h ≡ true
+  unfolding sound
+  sound-bit h t =
+      let both = and-left (hasBit (shareOf b s) h && eqb (shareOf b s % 2 ^ h) 0) (not (eqb (shareOf b s) 0)) t in
+      is-true (hasBit (shareOf b s) h) (and-left (hasBit (shareOf b s) h) (eqb (shareOf b s % 2 ^ h) 0) both)
 
-share-empty : (b : RxBuffer) (s : ℕ) → s < 64 → isMiss (lowestFor (hasBit s) b) ≡ eqb (shareOf b s) 0
-unfolding missed lowestFrom
-share-empty Rxb0 s h = same-bool (isMiss (lowestFor (hasBit s) Rxb0)) (eqb (shareOf Rxb0 s) 0) (every (missed Rxb0) 64 tt s h)
-share-empty Rxb1 s h = same-bool (isMiss (lowestFor (hasBit s) Rxb1)) (eqb (shareOf Rxb1 s) 0) (every (missed Rxb1) 64 tt s h)
+  sound-lowest : (h : ℕ) → T (sound b s (Filter h)) → shareOf b s % 2 ^ h ≡ 0
+  unfolding sound
+  sound-lowest h t =
+      let both = and-left (hasBit (shareOf b s) h && eqb (shareOf b s % 2 ^ h) 0) (not (eqb (shareOf b s) 0)) t in
+      eqb→eq (shareOf b s % 2 ^ h) 0 (and-right (hasBit (shareOf b s) h) (eqb (shareOf b s % 2 ^ h) 0) both)
+
+  sound-none : (x : Hit) → T (sound b s x) → isMiss x ≡ eqb (shareOf b s) 0
+  unfolding sound
+  sound-none (Filter h) t = sym (is-false (eqb (shareOf b s) 0) (and-right (hasBit (shareOf b s) h && eqb (shareOf b s % 2 ^ h) 0) (not (eqb (shareOf b s) 0)) t))
+  sound-none Miss t = sym (is-true (eqb (shareOf b s) 0) t)
 
 pub hit-is-lowest : HitIsLowest
 unfolding hitFor matchedOf
 hit-is-lowest c config f b e =
-    let here : hitFor c (matches config f) b ≡ lowestFor (hasBit (matchedOf config f)) b = simp e (lowest-in (matches config f) b) in
+    let s = setOf (matches config f) filters in
+    let here : hitFor c (matches config f) b ≡ lowestFor (hasBit s) b = simp e (lowest-in (matches config f) b) in
+    let sound-here : T (sound b s (hitFor c (matches config f) b)) = rw here (sound-all b s (set-lt (matches config f) 6 (omega arith))) in
     record {
-      lowest = here ∙ share-lowest (matchedOf config f) b;
-      none = ap isMiss here ∙ share-empty b (matchedOf config f) (set-lt (matches config f) 6 (omega arith));
+      bit = λ h p. sound-bit b s h (rw p at sound-here);
+      lowest = λ h p. sound-lowest b s h (rw p at sound-here);
+      none = sound-none b s (hitFor c (matches config f) b) sound-here;
     }

@@ -1,3 +1,3 @@
 pub mod Receiving
 pub mod Words
-pub mod Replies
+pub mod AnswerSets

@@ -1,5 +1,5 @@
 -- Receiving: a frame's register bytes, which filter matches, which buffer takes the frame, what is stored and what is lost.
-use Prim.Native.Nat.{ℕ, zero, suc, _+_, _-_, _*_, _/_, _%_, _<_}
+use Prim.Native.Nat.{ℕ, zero, suc, _+_, _-_, _*_, _/_, _%_, _^_, _<_}
 use mathlib.Core.Bool.{Bool, true, false, cond, not, _&&_, _||_}
 use mathlib.Core.List.{List, [], _∷_}
 use mathlib.Core.Path.{_≡_}
@@ -184,7 +184,7 @@ verdictBy c Miss other = verdict1 c other
 unfoldable pub verdictOf : Control → List ℕ → Frame → Verdict
 verdictOf c config f = verdictBy c (hitFor c (matches config f) Rxb0) (hitFor c (matches config f) Rxb1)
 
--- the match answer: the verdict, which has the hit, and the set
+-- the match answer: the verdict, which has the hit where the frame is stored, and the set
 unfoldable pub matchOf : Control → List ℕ → Frame → MatchAnswer
 matchOf c config f = record { verdict = verdictOf c config f; matched = matchedOf config f }
 
@@ -290,9 +290,11 @@ abbrev pub isMiss : Hit → Bool
 isMiss (Filter h) = false
 isMiss Miss = true
 
--- unless RXM is 11, the hit that a buffer gives when asked is the lowest bit of its share, and it gives none just if the share is empty
+-- unless RXM is 11, the hit that a buffer gives when asked is a bit of its share, the share has no lower one, and the buffer gives
+-- none just if the share is empty
 pub record HitInSet (c : Control) (config : List ℕ) (f : Frame) (b : RxBuffer) : Type 0 where
-  pub lowest : hitFor c (matches config f) b ≡ lowestFrom (hasBit (shareOf b (matchedOf config f))) 0 filters
+  pub bit : (h : ℕ) → hitFor c (matches config f) b ≡ Filter h → hasBit (shareOf b (matchedOf config f)) h ≡ true
+  pub lowest : (h : ℕ) → hitFor c (matches config f) b ≡ Filter h → shareOf b (matchedOf config f) % 2 ^ h ≡ 0
   pub none : isMiss (hitFor c (matches config f) b) ≡ eqb (shareOf b (matchedOf config f)) 0
 
 abbrev pub HitIsLowest : Type 0

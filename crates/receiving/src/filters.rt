@@ -1,4 +1,4 @@
-// The look over a buffer's filters.
+// The look over a buffer's filters, and the set of all that match.
 ghost use mathlib.Core.Path.{_≡_};
 ghost use Prim.Native.Nat.{_-_, _<_, _≤_};
 ghost use mathlib.Core.List.{[], _∷_};
@@ -16,7 +16,7 @@ ghost use Rattle.receiving.specs.Receiving.{
   lowestFor,
   hitFor,
 };
-ghost use Rattle.receiving.specs.Replies.{askedSet};
+ghost use Rattle.receiving.specs.AnswerSets.{wantedSet};
 use crate::Hit;
 use crate::Key;
 use image::RXB0CTRL;
@@ -50,7 +50,7 @@ fn word_at(image: &[u8], at: usize) -> u32
 }
 
 fn is_match(image: &[u8], key: Key, filter: u8) -> bool
-    requires { ⌜ (length (now image) ≡ imageSize) × (filter < 6) ⌝ }
+    requires { ⌜ (length (now image) ≡ imageSize) × (filter < filters) ⌝ }
     ensures { λ r. ⌜ r ≡ wordMatches (now (image .entry)) key filter ⌝ }
 {
     let at = (filter / 3 * 16 + filter % 3 * 4) as usize;
@@ -73,16 +73,16 @@ fn matched_by(image: &[u8], key: Key) -> u8
 }
 
 // The set where it is asked for; else it is not worked out.
-pub fn set_if(asked: bool, image: &[u8], key: Key) -> u8
+pub fn set_if(wanted: bool, image: &[u8], key: Key) -> u8
     requires { ⌜ length (now image) ≡ imageSize ⌝ }
-    ensures { λ r. ⌜ r ≡ askedSet asked (setOf (wordMatches (take 48 (now (image .entry))) key) filters) ⌝ }
+    ensures { λ r. ⌜ r ≡ wantedSet wanted (setOf (wordMatches (take 48 (now (image .entry))) key) filters) ⌝ }
 {
-    if asked { matched_by(image, key) } else { 0 }
+    if wanted { matched_by(image, key) } else { 0 }
 }
 
 // The look over filters first to end - 1: the first that matches is the answer.
 fn lowest(image: &[u8], key: Key, first: u8, end: u8) -> Hit
-    requires { ⌜ (length (now image) ≡ imageSize) × (first ≤ end) × (end ≤ 6) ⌝ }
+    requires { ⌜ (length (now image) ≡ imageSize) × (first ≤ end) × (end ≤ filters) ⌝ }
     ensures { λ r. ⌜ r ≡ lowestFrom (wordMatches (now (image .entry)) key) first (end - first) ⌝ }
 {
     let mut filter = first;

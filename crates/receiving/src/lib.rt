@@ -4,7 +4,7 @@ mod frames;
 mod verdicts;
 
 pub use verdicts::receive;
-pub use verdicts::reception_number;
+pub use verdicts::unheard;
 
 // What the filters are held against: a frame's four bytes as one word, and the bits of it that a mask can make count.
 pub struct Key {
@@ -28,7 +28,8 @@ pub enum Verdict {
     Lost1,
 }
 
-// The match answer: what becomes of the frame, with the hit, and the filters that match, bit n for filter n.
+// The match answer: what becomes of the frame, with the hit where it is stored, and the filters that match, bit n for
+// filter n.
 pub struct MatchAnswer {
     pub verdict: Verdict,
     pub matched: u8,

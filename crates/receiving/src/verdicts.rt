@@ -19,7 +19,7 @@ ghost use Rattle.receiving.specs.Receiving.{
   controlAfter,
   receivedOf,
 };
-ghost use Rattle.receiving.specs.Replies.{askedMatch, replyIn, replyTo};
+ghost use Rattle.receiving.specs.AnswerSets.{answerSetIn, answerSetTo, plainAnswer, wantedMatch};
 use crate::Hit;
 use crate::Key;
 use crate::MatchAnswer;
@@ -53,6 +53,13 @@ pub fn reception_number(reception: Reception) -> u8
         Reception::NotListening => 4,
         Reception::Woke => 5,
     }
+}
+
+// The answer to a frame for which no filter is asked: its set is empty.
+pub fn unheard(reception: Reception) -> u16
+    ensures { λ r. ⌜ answerSetIn r ≡ plainAnswer (receptionNumber reception) ⌝ }
+{
+    records::paired(reception_number(reception), 0)
 }
 
 fn is_full0(image: &[u8]) -> bool
@@ -126,12 +133,12 @@ fn judge(image: &[u8], key: Key, hit: Hit) -> Verdict
 }
 
 // The match answer: what becomes of the frame, and its set where that is asked for.
-fn match_of(image: &[u8], frame: Frame, asked: bool) -> MatchAnswer
+fn match_of(image: &[u8], frame: Frame, wanted: bool) -> MatchAnswer
     requires { ⌜ length (now image) ≡ imageSize ⌝ }
-    ensures { λ r. ⌜ r ≡ askedMatch asked (matchOf (controlOf (now (image .entry))) (take 48 (now (image .entry))) frame) ⌝ }
+    ensures { λ r. ⌜ r ≡ wantedMatch wanted (matchOf (controlOf (now (image .entry))) (take 48 (now (image .entry))) frame) ⌝ }
 {
     let key = key_of(frame);
-    let matched = set_if(asked, image, key);
+    let matched = set_if(wanted, image, key);
     let verdict = judge(image, key, hit_for(image, key, RxBuffer::Rxb0));
     MatchAnswer { verdict, matched }
 }
@@ -211,14 +218,14 @@ fn mark(image: &mut [u8], verdict: Verdict, remote: bool)
 }
 
 // The receive rules whole. The answer's number and the set, where it is asked for, come back as one number: the set in the high byte.
-pub fn receive(image: &mut [u8], frame: Frame, asked: bool) -> u16
-    ensures { λ r. ⌜ Answered (now (image .entry)) (replyIn r) (replyTo asked (receivedOf (coreOf (now (image .entry))) frame)) (replyIn 0) ⌝ }
+pub fn receive(image: &mut [u8], frame: Frame, wanted: bool) -> u16
+    ensures { λ r. ⌜ Answered (now (image .entry)) (answerSetIn r) (answerSetTo wanted (receivedOf (coreOf (now (image .entry))) frame)) (plainAnswer (receptionNumber Reception.NotListening)) ⌝ }
     ensures { λ _. ⌜ Acted (now (image .entry)) (now (image .exit)) (receivedOf (coreOf (now (image .entry))) frame .core) ⌝ }
 {
     if image.len() != SIZE {
-        return 0;
+        return unheard(Reception::NotListening);
     }
-    let found = match_of(image, frame, asked);
+    let found = match_of(image, frame, wanted);
     let verdict = found.verdict;
     mark(image, verdict, frame.remote);
     put_by(image, verdict, frame);

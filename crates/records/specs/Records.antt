@@ -6,6 +6,7 @@ use lib.Dec.{eqb, ltb, leb}
 use lib.ListN.{getD}
 use Rattle.bits.specs.Bit.{hasBit}
 use Rattle.records.specs.declared.Kind.{Kind}
+use Rattle.records.specs.declared.Outcome.{Outcome}
 use Rattle.records.specs.declared.Kind.the-variants.{SelectLow, Exchange, SelectHigh, FrameHeard, BusIdle, FrameEnds, ReceiveError, Recovery, Unknown}
 use Rattle.records.specs.declared.Frame.{Frame}
 use Rattle.records.specs.declared.Fields.{Fields}
@@ -28,6 +29,10 @@ refusedNoFlight = 4
 
 abbrev pub refusedState : ℕ
 refusedState = 5
+
+-- what is told of a refused record: its refusal, the answer 0 and an empty set
+abbrev pub refusedOutcome : ℕ → Outcome
+refusedOutcome n = record { refusal = n; answer = 0; matched = 0 }
 
 -- Byte i of a record.
 abbrev pub byteAt : List ℕ → ℕ → ℕ

@@ -3,6 +3,7 @@ ghost use mathlib.Core.Path.{_≡_};
 ghost use mathlib.Core.List.{[], _∷_};
 ghost use Prim.Native.Nat.{_+_, _*_, _/_, _%_, _<_, _^_, _-_};
 ghost use Rattle.records.specs.Records.{
+  refusedOutcome,
   kindBy,
   zeros,
   frameOf,
@@ -83,6 +84,17 @@ pub fn kind_by(number: u8) -> Kind
         6 => Kind::ReceiveError,
         7 => Kind::Recovery,
         _ => Kind::Unknown,
+    }
+}
+
+// What is told of a refused record.
+pub fn refused(refusal: u8) -> Outcome
+    ensures { λ r. ⌜ r ≡ refusedOutcome refusal ⌝ }
+{
+    Outcome {
+        refusal,
+        answer: 0,
+        matched: 0,
     }
 }
 

@@ -30,35 +30,35 @@ no-test true false e = (refl, refl)
 no-test false y e = absurd (omega arith)
 
 -- a record that is not refused for its sizes
-pub whole-sizes : (asked : Bool) (size room : ℕ) → recordRefusal asked size room ≡ 0 → (size ≡ recordSize) × (answerSize asked ≤ room)
-whole-sizes asked size room e =
-    let t = no-test (eqb size recordSize) (ltb room (answerSize asked)) e in
-    (eqb-true size recordSize (t .0), ltb-false room (answerSize asked) (t .1))
+pub whole-sizes : (wanted : Bool) (size room : ℕ) → recordRefusal wanted size room ≡ 0 → (size ≡ recordSize) × (answerSize wanted ≤ room)
+whole-sizes wanted size room e =
+    let t = no-test (eqb size recordSize) (ltb room (answerSize wanted)) e in
+    (eqb-true size recordSize (t .0), ltb-false room (answerSize wanted) (t .1))
 
-pub size-most : (asked : Bool) → answerSize asked ≤ 3
+pub size-most : (wanted : Bool) → answerSize wanted ≤ 3
 size-most true = omega arith
 size-most false = omega arith
 
 -- the room of one record is its answer's size
-room-one : (asked : Bool) → answerRoom asked 1 ≡ answerSize asked
+room-one : (wanted : Bool) → answerRoom wanted 1 ≡ answerSize wanted
 room-one true = refl
 room-one false = refl
 
-one-refusal : (asked : Bool) (size room : ℕ) → size ≡ recordSize → recordRefusal asked size room ≡ runRefusal asked size room
+one-refusal : (wanted : Bool) (size room : ℕ) → size ≡ recordSize → recordRefusal wanted size room ≡ runRefusal wanted size room
 unfolding runRefusal logRefusal
-one-refusal asked size room e = rw (e, room-one asked)
+one-refusal wanted size room e = rw (e, room-one wanted)
 
-one-answer : (asked : Bool) (s : Stepped) → answersOf asked (s ∷ []) ≡ answerBytes asked (outcomeIn s)
+one-answer : (wanted : Bool) (s : Stepped) → answersOf wanted (s ∷ []) ≡ answerBytes wanted (outcomeIn s)
 unfolding answersOf
 one-answer true s = refl
 one-answer false s = refl
 
 pub step-is-run : StepIsRun
 unfolding stepAnswer fromAnswers lastChip
-step-is-run asked m r answer e =
-    let same = one-refusal asked (length r) (length answer) e in
+step-is-run wanted m r answer e =
+    let same = one-refusal wanted (length r) (length answer) e in
     let one = one-step (chipOf m) r e in
-    (rw same, rw (same, e, one, one-answer asked (stepOf (chipOf m) r), room-one asked), rw (e, one))
+    (rw same, rw (same, e, one, one-answer wanted (stepOf (chipOf m) r), room-one wanted), rw (e, one))
 
 -- ---- what a chip answers
 pub held-value : (m : List ℕ) {x v o : ℕ} → isChip m ≡ true → x < 2 ^ 63 → Answered m x v o → toZ w64 x ≡ heldAnswer m v

@@ -38,35 +38,35 @@ PowerOnHeld = (isChip powerOnBytes ≡ true) × (chipOf powerOnBytes ≡ powerOn
 -- ---- the step of a record r, with room for its answer, and for its set where that is asked for
 -- the refusal: 21, then 6 for a record that is not 16 bytes, then 7 for less room than two bytes, with the set three
 abbrev pub recordRefusal : Bool → ℕ → ℕ → ℕ
-recordRefusal asked size room =
-    cond (eqb size recordSize) (cond (ltb room (answerSize asked)) roomRefusal 0) lengthRefusal
+recordRefusal wanted size room =
+    cond (eqb size recordSize) (cond (ltb room (answerSize wanted)) roomRefusal 0) lengthRefusal
 
 abbrev pub stepRefusal : Bool → List ℕ → List ℕ → List ℕ → ℕ
-stepRefusal asked m r answer = heldRefusal m (recordRefusal asked (length r) (length answer))
+stepRefusal wanted m r answer = heldRefusal m (recordRefusal wanted (length r) (length answer))
 
 -- the bytes of the answer, or minus the refusal; a record that the chip refuses is no refusal of the call
 unfoldable pub stepResult : Bool → List ℕ → List ℕ → List ℕ → ℤ
-stepResult asked m r answer = callResult (stepRefusal asked m r answer) (answerSize asked)
+stepResult wanted m r answer = callResult (stepRefusal wanted m r answer) (answerSize wanted)
 
 -- the record's refusal and answer, its set where that is asked for, and then what the room held past them; or, refused, all that it held
 unfoldable pub stepAnswer : Bool → List ℕ → List ℕ → List ℕ → List ℕ
-stepAnswer asked m r answer =
-    cond (ltb 0 (stepRefusal asked m r answer)) answer (answerBytes asked (outcome (chipOf m) r) ++ drop (answerSize asked) answer)
+stepAnswer wanted m r answer =
+    cond (ltb 0 (stepRefusal wanted m r answer)) answer (answerBytes wanted (outcome (chipOf m) r) ++ drop (answerSize wanted) answer)
 
 -- a law that the proofs show: the step of a record is the run of the log that is this record
 abbrev pub StepIsRun : Type 0
 StepIsRun =
-    (asked : Bool) (m r answer : List ℕ) → length r ≡ recordSize
-    → (stepRefusal asked m r answer ≡ fromRefusal asked m r answer)
-    × (stepAnswer asked m r answer ≡ fromAnswers asked m r answer)
+    (wanted : Bool) (m r answer : List ℕ) → length r ≡ recordSize
+    → (stepRefusal wanted m r answer ≡ fromRefusal wanted m r answer)
+    × (stepAnswer wanted m r answer ≡ fromAnswers wanted m r answer)
     × (nextChip (chipOf m) r ≡ chipFrom (chipOf m) r)
 
 -- what the step promises of n and after, in which it leaves the chip and the answer, and of its result x; a record that the chip
 -- refuses changes no byte of the chip
-pub record StepHeld (asked : Bool) (m r answer n after : List ℕ) (x : ℤ) : Type 0 where
-  pub result : x ≡ stepResult asked m r answer
-  pub buffer : after ≡ stepAnswer asked m r answer
-  pub chip : Held (stepRefusal asked m r answer) m n (nextChip (chipOf m) r)
+pub record StepHeld (wanted : Bool) (m r answer n after : List ℕ) (x : ℤ) : Type 0 where
+  pub result : x ≡ stepResult wanted m r answer
+  pub buffer : after ≡ stepAnswer wanted m r answer
+  pub chip : Held (stepRefusal wanted m r answer) m n (nextChip (chipOf m) r)
   pub kept : RefusedKept (outcome (chipOf m) r .refusal) m n
   pub run : StepIsRun
 

@@ -57,28 +57,28 @@ pub extern "C" fn mcp2515_power_on(chip: &mut [u8]) -> i64
 }
 
 // Why a record of size bytes, with room for so many answer bytes, is refused; 0 where it is not.
-fn record_refusal(size: usize, room: usize, asked: bool) -> u8
-    ensures { λ r. ⌜ r ≡ recordRefusal asked size room ⌝ }
+fn record_refusal(size: usize, room: usize, wanted: bool) -> u8
+    ensures { λ r. ⌜ r ≡ recordRefusal wanted size room ⌝ }
 {
     if size != RECORD_SIZE {
         return LENGTH_REFUSAL;
     }
-    if room < bus_log::answer_size(asked) {
+    if room < bus_log::answer_size(wanted) {
         return ROOM_REFUSAL;
     }
     0
 }
 
 // One record, as a log of its own.
-fn step<'a>(chip: &'a mut [u8], record: &'a [u8], answer: &'a mut [u8], asked: bool) -> i64
-    ensures { λ x. ⌜ StepHeld asked (now (chip .entry)) (now («record» .entry)) (now (answer .entry)) (now (chip .exit)) (now (answer .exit)) x ⌝ }
+fn step<'a>(chip: &'a mut [u8], record: &'a [u8], answer: &'a mut [u8], wanted: bool) -> i64
+    ensures { λ x. ⌜ StepHeld wanted (now (chip .entry)) (now («record» .entry)) (now (answer .entry)) (now (chip .exit)) (now (answer .exit)) x ⌝ }
 {
-    let refusal = bus_log::held_refusal(chip, record_refusal(record.len(), answer.len(), asked));
+    let refusal = bus_log::held_refusal(chip, record_refusal(record.len(), answer.len(), wanted));
     if refusal > 0 {
         return bus_log::minus(refusal);
     }
-    bus_log::run_from(chip, record, answer, asked);
-    bus_log::answer_size(asked) as i64
+    bus_log::run_from(chip, record, answer, wanted);
+    bus_log::answer_size(wanted) as i64
 }
 
 // One record: stores its refusal and answer and returns 2, or changes nothing and returns minus the

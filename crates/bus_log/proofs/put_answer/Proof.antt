@@ -8,13 +8,13 @@ use Rattle.bus_log.proofs.put_answer.Statement.{statement}
 use Rattle.bus_log.proofs.put_answer.Tie as tie
 
 slice-write-answers : tie.Need-slice-write-answers
-slice-write-answers c = omega (arith, size-least (c .args .asked))
+slice-write-answers c = omega (arith, size-least (c .args .wanted))
 
 add-answers : tie.Need-add-answers
 add-answers c = search needs
 
 slice-write-answers-2 : tie.Need-slice-write-answers-2
-slice-write-answers-2 c = simp length-set (omega (arith, size-least (c .args .asked)))
+slice-write-answers-2 c = simp length-set (omega (arith, size-least (c .args .wanted)))
 
 add-answers-2 : tie.Need-add-answers-2
 add-answers-2 c = search needs

@@ -37,7 +37,7 @@ unfolding fromResult fromAnswers
 returns c =
     let a = c .before .before .before .before .before .before .before .before .args in
     let r = c .before .before .held-refusal .result in
-    let same : r ≡ fromRefusal (a .asked) (a .chip .now) (a .log .now) (a .answers .now) =
+    let same : r ≡ fromRefusal (a .wanted) (a .chip .now) (a .log .now) (a .answers .now) =
     c .before .before .held-refusal .ensures ∙ ap (λ (x : ℕ). heldRefusal (a .chip .now) x) (c .before .before .before .run-refusal .ensures) in
     let t = lt-ltb 0 r (c .before .if1 .taken) in
     record {
@@ -53,9 +53,9 @@ returns c =
 run-records-requires : tie.Need-run-records-requires
 run-records-requires c κs =
     let a = c .before .before .before .before .before .before .before .before .before .args in
-    let none : fromRefusal (a .asked) (a .chip .now) (a .log .now) (a .answers .now) ≡ 0 =
+    let none : fromRefusal (a .wanted) (a .chip .now) (a .log .now) (a .answers .now) ≡ 0 =
     sym (c .before .before .before .held-refusal .ensures ∙ ap (λ (x : ℕ). heldRefusal (a .chip .now) x) (c .before .before .before .before .run-refusal .ensures)) ∙ omega arith in
-    let both = held-both (a .chip .now) (runRefusal (a .asked) (length (a .log .now)) (length (a .answers .now))) none in
+    let both = held-both (a .chip .now) (runRefusal (a .wanted) (length (a .log .now)) (length (a .answers .now))) none in
     (chip-size (a .chip .now) (both .0), omega arith, accepted _ _ _ (both .1) .room)
 
 cast-result : tie.Need-cast-result
@@ -71,14 +71,14 @@ returns-2 : tie.Need-returns-2
 unfolding fromResult fromAnswers
 returns-2 c =
     let a = c .before .before .before .before .before .before .before .before .before .before .before .before .before .before .args in
-    let none : fromRefusal (a .asked) (a .chip .now) (a .log .now) (a .answers .now) ≡ 0 =
+    let none : fromRefusal (a .wanted) (a .chip .now) (a .log .now) (a .answers .now) ≡ 0 =
     sym (c .before .before .before .before .before .before .before .before .held-refusal .ensures ∙ ap (λ (x : ℕ). heldRefusal (a .chip .now) x) (c .before .before .before .before .before .before .before .before .before .run-refusal .ensures)) ∙ omega arith in
-    let both = held-both (a .chip .now) (runRefusal (a .asked) (length (a .log .now)) (length (a .answers .now))) none in
+    let both = held-both (a .chip .now) (runRefusal (a .wanted) (length (a .log .now)) (length (a .answers .now))) none in
     let ran = c .before .before .before .before .run-records .ensures in
     let n = recordsIn (length (a .log .now)) in
     record {
       result = rw none (toZ-pos w64 (omega arith));
-      buffer = rw none (ran .0 ∙ answers-first (a .asked) n (chipOf (a .chip .now)) (a .log .now) (a .answers .now) (accepted _ _ _ (both .1) .room));
+      buffer = rw none (ran .0 ∙ answers-first (a .wanted) n (chipOf (a .chip .now)) (a .log .now) (a .answers .now) (accepted _ _ _ (both .1) .room));
       chip = held-moved (both .0) none (ran .1 .0);
       kept = ran .1 .1;
       power-on = from-power-on;

@@ -5,13 +5,19 @@ use Rattle.bus_log.proofs.Advance.{record-ran}
 use Rattle.bus_log.proofs.run_record.Statement.{statement}
 use Rattle.bus_log.proofs.run_record.Tie as tie
 
+refused-requires : tie.Need-refused-requires
+refused-requires c κs = search needs
+
 returns : tie.Need-returns
 returns c =
-    record { told = λ e _. absurd (c .if1 .taken e); moved = λ e _. absurd (c .if1 .taken e); other = λ _. refl; kept = λ _. refl }
+    record { told = λ e _. absurd (c .before .if1 .taken e); moved = λ e _. absurd (c .before .if1 .taken e); other = λ _. c .refused .ensures; kept = λ _. refl }
+
+refused-requires-2 : tie.Need-refused-requires-2
+refused-requires-2 c κs = search needs
 
 returns-2 : tie.Need-returns-2
 returns-2 c =
-    record { told = λ _ e. absurd (c .if2 .taken e); moved = λ _ e. absurd (c .if2 .taken e); other = λ _. refl; kept = λ _. refl }
+    record { told = λ _ e. absurd (c .before .if2 .taken e); moved = λ _ e. absurd (c .before .if2 .taken e); other = λ _. c .refused2 .ensures; kept = λ _. refl }
 
 slice-aggregate-run-records : tie.Need-slice-aggregate-run-records
 slice-aggregate-run-records c = search needs
@@ -41,7 +47,9 @@ pub run-record-spec : {M : Type 1} → statement M
 run-record-spec =
     tie.close
     (tie.spec
+    refused-requires
     returns
+    refused-requires-2
     returns-2
     slice-aggregate-run-records
     run-records-requires

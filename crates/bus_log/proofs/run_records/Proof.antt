@@ -18,18 +18,18 @@ use Rattle.bus_log.proofs.run_records.Statement.{statement}
 use Rattle.bus_log.proofs.run_records.Tie as tie
 
 abbrev Inv-loop : tie.InvT-loop
-Inv-loop image₀ log answers₀ count asked size left₀ at₀ out₀ image answers left at out =
+Inv-loop image₀ log answers₀ count wanted size left₀ at₀ out₀ image answers left at out =
     (length image ≡ imageSize)
     × (at + left * recordSize ≤ length log)
-    × (out + answerRoom asked left ≤ length answers)
+    × (out + answerRoom wanted left ≤ length answers)
     × (length answers ≡ length answers₀)
-    × (sets answers out (answersOf asked (stepsOf left (chipOf image) (drop at log))) ≡ sets answers₀ 0 (answersOf asked (stepsOf count (chipOf image₀) log)))
+    × (sets answers out (answersOf wanted (stepsOf left (chipOf image) (drop at log))) ≡ sets answers₀ 0 (answersOf wanted (stepsOf count (chipOf image₀) log)))
     × (drop 146 image ≡ drop 146 image₀)
     × (lastChip (chipOf image) (stepsOf left (chipOf image) (drop at log)) ≡ lastChip (chipOf image₀) (stepsOf count (chipOf image₀) log))
     × (allRefused (stepsOf count (chipOf image₀) log) ≡ true → (image ≡ image₀) × (allRefused (stepsOf left (chipOf image) (drop at log)) ≡ true))
 
 abbrev μ-loop : tie.MeasureT-loop
-μ-loop image₀ log answers₀ count asked size left₀ at₀ out₀ image answers left at out = left
+μ-loop image₀ log answers₀ count wanted size left₀ at₀ out₀ image answers left at out = left
 
 answer-size-requires : tie.Need-answer-size-requires Inv-loop μ-loop
 answer-size-requires c κs = search needs
@@ -44,13 +44,13 @@ step-in-place-requires : tie.Need-step-in-place-requires Inv-loop μ-loop
 step-in-place-requires c κs = search needs
 
 put-answer-requires : tie.Need-put-answer-requires Inv-loop μ-loop
-put-answer-requires c κs = omega (arith, room-less (c .before .before .before .before .before .before .before .before .before .before .before .before .args .asked) (c .before .before .before .before .before .before .before .loop .left) (omega arith))
+put-answer-requires c κs = omega (arith, room-less (c .before .before .before .before .before .before .before .before .before .before .before .before .args .wanted) (c .before .before .before .before .before .before .before .loop .left) (omega arith))
 
 add-at : tie.Need-add-at Inv-loop μ-loop
 add-at c = search needs
 
 add-out : tie.Need-add-out Inv-loop μ-loop
-add-out c = rw (c .before .before .before .before .before .before .before .before .before .before .before .answer-size .ensures) (omega (arith, room-less (c .before .before .before .before .before .before .before .before .before .before .before .before .before .before .before .args .asked) (c .before .before .before .before .before .before .before .before .before .before .loop .left) (omega arith)))
+add-out c = rw (c .before .before .before .before .before .before .before .before .before .before .before .answer-size .ensures) (omega (arith, room-less (c .before .before .before .before .before .before .before .before .before .before .before .before .before .before .before .args .wanted) (c .before .before .before .before .before .before .before .before .before .before .loop .left) (omega arith)))
 
 sub-left : tie.Need-sub-left Inv-loop μ-loop
 sub-left c = search needs
@@ -66,17 +66,17 @@ loop-again c =
     let s = stepOf (chipOf (l .image)) r in
     let rest = stepsOf (l .left - 1) (s .chip) (drop (l .at + recordSize) (a .log .now)) in
     let step = c .before .before .before .before .before .before .step-in-place in
-    let w = ran (l .image) (step .last .0) (c .before .before .before .before .before .before .before .fields-within .result) r (a .asked) (step .result) _ (l .inv .0) (c .before .before .before .before .before .before .before .fields-within .ensures) (step .ensures .0) (step .ensures .1 .0) in
+    let w = ran (l .image) (step .last .0) (c .before .before .before .before .before .before .before .fields-within .result) r (a .wanted) (step .result) _ (l .inv .0) (c .before .before .before .before .before .before .before .fields-within .ensures) (step .ensures .0) (step .ensures .1 .0) in
     let stored = c .before .before .put-answer .ensures ∙ ap (λ (bytes : List ℕ). sets (l .answers) (l .out) bytes) (w .bytes) in
-    let kept : length (sets (l .answers) (l .out) (answerBytes (a .asked) (outcomeIn s))) ≡ length (l .answers) = length-sets (l .answers) (l .out) (answerBytes (a .asked) (outcomeIn s)) in
-    let room = room-less (a .asked) (l .left) (omega arith) in
+    let kept : length (sets (l .answers) (l .out) (answerBytes (a .wanted) (outcomeIn s))) ≡ length (l .answers) = length-sets (l .answers) (l .out) (answerBytes (a .wanted) (outcomeIn s)) in
+    let room = room-less (a .wanted) (l .left) (omega arith) in
     let next = next-step (l .left) (chipOf (l .image)) (a .log .now) (l .at) (omega arith) (omega arith) in (
       w .size,
       omega arith,
       rw (stored, c .before .before .before .before .before .before .before .before .before .before .before .answer-size .ensures) (omega (arith, kept, room)),
       rw stored (omega (arith, kept)),
       rw (stored, w .after, c .before .before .before .before .before .before .before .before .before .before .before .answer-size .ensures)
-          (store-step (a .asked) (l .answers) (l .out) s rest ∙ rw (← next) (l .inv .4)),
+          (store-step (a .wanted) (l .answers) (l .out) s rest ∙ rw (← next) (l .inv .4)),
       w .spare ∙ l .inv .5,
       rw (w .after) (sym (next-chip (l .left) (chipOf (l .image)) (a .log .now) (l .at) (omega arith) (omega arith)) ∙ l .inv .6),
       (λ h.

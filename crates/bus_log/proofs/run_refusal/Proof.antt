@@ -12,7 +12,7 @@ answer-size-requires : tie.Need-answer-size-requires
 answer-size-requires c κs = search needs
 
 mul-needed : tie.Need-mul-needed
-mul-needed c = rw (c .answer-size .ensures) (omega (arith, room-most (c .before .args .asked) (c .before .args .size / 16)))
+mul-needed c = rw (c .answer-size .ensures) (omega (arith, room-most (c .before .args .wanted) (c .before .args .size / 16)))
 
 log-refusal-requires : tie.Need-log-refusal-requires
 log-refusal-requires c κs = search needs

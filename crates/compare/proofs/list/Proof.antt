@@ -73,6 +73,7 @@ slice-aggregate-list-block-2 c = search needs
 list-block-requires : tie.Need-list-block-requires Inv-loop μ-loop
 list-block-requires c κs =
     let a = c .before .before .before .before .before .before .before .before .before .before .before .before .before .before .before .before .before .before .before .args in
+    let start = c .before .before .before .before .before .before .before .before .before .before .before .before .before .before .before .before .before .before .before .pre in
     let l = c .before .before .before .before .before .before .before .before .before .before .before .before .before .before .before .loop in
     let n = c .before .before .before .before .before .before .before .before .before .before .before .before .before .least .result in
     let ran = c .before .before .before .before .before .before .before .before .before .before .run-block in
@@ -82,9 +83,9 @@ list-block-requires c κs =
     let fit : n ≤ l .left = omega (arith, c .before .before .before .before .before .before .before .before .before .before .before .before .before .least .ensures) in
     let parts =
     block-parts n (l .left) (l .done) (chipOf (l .one)) (chipOf (l .two)) (chipOf (ran .last .0)) (chipOf (ran-2 .last .0)) (a .first .now) (a .second .now) (ran .last .1 .1 .1 .1 .0) (ran-2 .last .1 .1 .1 .1 .0) (drop (answerRoom true n) (l .told)) (drop (answerRoom true n) (l .other)) fit (w .answers) (w-2 .answers) (w .ahead .chip) (w-2 .ahead .chip) in (
-      (omega arith, omega arith, omega arith, omega arith, l .inv .5),
+      (omega (arith, start .0 .1), omega (arith, start .0 .2), omega arith, omega arith, l .inv .5),
       λ some.
-          let room = c .before .before .before .before .before .before .before .before .before .before .before .before .before .before .before .before .before .before .before .pre .1 (λ z. some (l .inv .6 ∙ z)) in
+          let room = start .1 (λ z. some (l .inv .6 ∙ z)) in
           omega (arith, room, parts-sizes parts, l .inv .6, l .inv .7),
     )
 

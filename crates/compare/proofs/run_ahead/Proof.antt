@@ -16,7 +16,7 @@ abbrev Inv-loop : tie.InvT-loop
 Inv-loop image₀ log count told₀ left₀ done₀ image told left done =
     (isChip image ≡ true)
     × (length image ≡ length image₀)
-    × (length told ≡ 1536)
+    × (length told ≡ 1024)
     × (done + left ≡ count)
     × (chipOf image ≡ lastChip (chipOf image₀) (stepsOf done (chipOf image₀) log))
 

@@ -41,7 +41,7 @@ returns c =
     let a = c .before .before .before .before .before .before .before .before .before .before .before .args in
     let at = a .before * recordSize in
     let place : at + a .count * recordSize - at ≡ a .count * recordSize = omega arith in
-    ran (a .count) (drop at (a .log .now)) (a .image .now) _ (a .told .now) _ _ (c .before .before .before .before .before .before .before .before .before .before .before .pre .0) (omega (arith, length-drop at (a .log .now))) (c .before .before .before .before .before .before .before .before .before .before .before .pre .2) (c .before .before .before .before .before .before .before .before .before .before .before .pre .3)
+    ran (a .wanted) (a .count) (drop at (a .log .now)) (a .image .now) _ (a .told .now) _ _ (c .before .before .before .before .before .before .before .before .before .before .before .pre .0) (omega (arith, length-drop at (a .log .now))) (c .before .before .before .before .before .before .before .before .before .before .before .pre .2) (c .before .before .before .before .before .before .before .before .before .before .before .pre .3)
     (rw place at (c .before .before .before .before .run-from .ensures))
 
 pub run-block-spec : {M : Type 1} → statement M

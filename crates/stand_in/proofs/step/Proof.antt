@@ -35,7 +35,7 @@ unfolding stepResult stepAnswer
 returns c =
     let a = c .before .before .before .before .before .before .before .before .args in
     let r = c .before .before .held-refusal .result in
-    let same : r ≡ stepRefusal (a .asked) (a .chip .now) (a .«record» .now) (a .answer .now) =
+    let same : r ≡ stepRefusal (a .wanted) (a .chip .now) (a .«record» .now) (a .answer .now) =
     c .before .before .held-refusal .ensures ∙ ap (λ (x : ℕ). heldRefusal (a .chip .now) x) (c .before .before .before .record-refusal .ensures) in
     let t = lt-ltb 0 r (omega (arith, c .before .if1 .taken)) in
     record {
@@ -55,7 +55,7 @@ answer-size-requires c κs = search needs
 cast-result : tie.Need-cast-result
 cast-result c =
     let size = c .answer-size .ensures in
-    let most = size-most (c .before .before .before .before .before .before .before .before .before .before .before .before .before .before .before .args .asked) in
+    let most = size-most (c .before .before .before .before .before .before .before .before .before .before .before .before .before .before .before .args .wanted) in
     search needs
 
 same-length-2 : tie.Need-same-length-2
@@ -68,13 +68,13 @@ returns-2 : tie.Need-returns-2
 unfolding stepResult
 returns-2 c =
     let a = c .before .before .before .before .before .before .before .before .before .before .before .before .before .before .before .args in
-    let none : stepRefusal (a .asked) (a .chip .now) (a .«record» .now) (a .answer .now) ≡ 0 =
+    let none : stepRefusal (a .wanted) (a .chip .now) (a .«record» .now) (a .answer .now) ≡ 0 =
     sym (c .before .before .before .before .before .before .before .before .before .held-refusal .ensures ∙ ap (λ (x : ℕ). heldRefusal (a .chip .now) x) (c .before .before .before .before .before .before .before .before .before .before .record-refusal .ensures)) ∙ omega arith in
-    let both = held-both (a .chip .now) (recordRefusal (a .asked) (length (a .«record» .now)) (length (a .answer .now))) none in
-    let whole = whole-sizes (a .asked) (length (a .«record» .now)) (length (a .answer .now)) (both .1) .0 in
-    let same = step-is-run (a .asked) (a .chip .now) (a .«record» .now) (a .answer .now) whole in
+    let both = held-both (a .chip .now) (recordRefusal (a .wanted) (length (a .«record» .now)) (length (a .answer .now))) none in
+    let whole = whole-sizes (a .wanted) (length (a .«record» .now)) (length (a .answer .now)) (both .1) .0 in
+    let same = step-is-run (a .wanted) (a .chip .now) (a .«record» .now) (a .answer .now) whole in
     let ran = c .before .before .before .before .before .run-from .ensures in
-    let small = size-most (a .asked) in
+    let small = size-most (a .wanted) in
     record {
       result = rw (none, ← c .answer-size .ensures) (toZ-pos w64 (omega (arith, c .answer-size .ensures)));
       buffer = ran .buffer ∙ sym (same .1);

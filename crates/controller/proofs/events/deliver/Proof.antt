@@ -29,7 +29,7 @@ returns c =
     let a = c .before .before .before .before .before .before .before .before .before .before .before .before .before .before .args in
     let sent = c .before .before .before .before .before .before .before .sent .ensures ∙ ap (λ (k : Control). sentBy k (a .buffer)) (c .before .before .before .before .before .before .before .before .before .control-of .ensures .image (c .before .before .before .before .before .before .before .before .before .before .before .before .before .before .pre)) in
     let w =
-    received (a .asked) (c .before .before .before .before .before .before .before .before .before .before .before .frame-sent .result) (packed (c .before .before .before .before .before .before .before .before .before .before .before .before .before .before .pre) (c .before .before .before .before .before .before .put-control .ensures) sent)
+    received (a .wanted) (c .before .before .before .before .before .before .before .before .before .before .before .frame-sent .result) (packed (c .before .before .before .before .before .before .before .before .before .before .before .before .before .before .pre) (c .before .before .before .before .before .before .put-control .ensures) sent)
     (c .before .before .receive .ensures .0) (c .before .before .receive .ensures .1) in
     simp (← c .before .before .before .before .before .before .before .before .before .before .before .frame-sent .ensures) w
 

@@ -37,7 +37,7 @@ finish-in-requires : tie.Need-finish-in-requires
 finish-in-requires c κs = search needs
 
 returns : tie.Need-returns
-returns c = rw (ended-idle (c .before .before .before .before .before .before .before .before .before .args .image .now) (c .before .before .before .before .before .before .before .before .before .args .number) (sym (c .before .before .before .before .before .before .flight-of .ensures) ∙ c .before .enum-told .given .1)) (plainly (c .before .before .before .before .before .before .before .before .before .args .asked) (c .plain .ensures), unchanged (c .before .before .before .before .before .before .before .before .before .args .image .now) (c .before .before .before .before .before .before .before .before .before .pre))
+returns c = rw (ended-idle (c .before .before .before .before .before .before .before .before .before .args .image .now) (c .before .before .before .before .before .before .before .before .before .args .number) (sym (c .before .before .before .before .before .before .flight-of .ensures) ∙ c .before .enum-told .given .1)) (plainly (c .before .before .before .before .before .before .before .before .before .args .wanted) (c .plain .ensures), unchanged (c .before .before .before .before .before .before .before .before .before .args .image .now) (c .before .before .before .before .before .before .before .before .before .pre))
 
 same-length : tie.Need-same-length
 same-length c = search needs

@@ -6,7 +6,7 @@ use Rattle.image.specs.Image.{controlOf}
 use Rattle.image.proofs.Laws.{followed, acted, passed, answered, unanswered}
 use Rattle.controller.specs.Events.{eventRefusal, settledCore, eventOf}
 use Rattle.receiving.proofs.Stored.{unchanged}
-use Rattle.controller.proofs.Acts.{kind-field, refusal-asked, acceptedOf}
+use Rattle.controller.proofs.Acts.{kind-field, refusal-wanted, acceptedOf}
 use borrow.Author.Needs.{needs}
 use Rattle.controller.proofs.events.event.Statement.{statement}
 use Rattle.controller.proofs.events.event.Tie as tie
@@ -36,7 +36,7 @@ returns-2 c =
     let size = c .before .before .before .before .before .if1 .left in
     let e : c .before .before .refuse .result ≡ eventRefusal (controlOf (a .image .now)) (recordOf (a .fields)) =
     c .before .before .refuse .ensures ∙ ap (λ (x : Control). eventRefusal x (recordOf (a .fields))) (c .before .before .before .control-of .ensures .image size) in
-    simp (← e, ne-eqb _ _ (c .before .if2 .taken)) (answered size (c .refused2 .ensures ∙ refusal-asked (a .asked) _), (acted size (unchanged (a .image .now) size), λ _. refl))
+    simp (← e, ne-eqb _ _ (c .before .if2 .taken)) (answered size (c .refused2 .ensures ∙ refusal-wanted (a .wanted) _), (acted size (unchanged (a .image .now) size), λ _. refl))
 
 kind-by-requires : tie.Need-kind-by-requires
 kind-by-requires c κs = search needs

@@ -36,7 +36,7 @@ same-length-2 c = search needs
 returns-2 : tie.Need-returns-2
 returns-2 c =
     let done = simp (c .before .before .before .before .enum-told2 .given .1) at (c .before .before .finish .ensures) in
-    simp (c .before .before .before .before .enum-told2 .given .1, c .before .before .before .before .before .before .if1 .taken) (plainly (c .before .before .before .before .before .before .before .before .args .asked) (done .0), done .1)
+    simp (c .before .before .before .before .enum-told2 .given .1, c .before .before .before .before .before .before .if1 .taken) (plainly (c .before .before .before .before .before .before .before .before .args .wanted) (done .0), done .1)
 
 same-length-3 : tie.Need-same-length-3
 same-length-3 c = search needs
@@ -44,13 +44,13 @@ same-length-3 c = search needs
 returns-3 : tie.Need-returns-3
 returns-3 c =
     let done = simp (c .before .before .before .before .enum-told3 .given .1) at (c .before .before .finish2 .ensures) in
-    simp (c .before .before .before .before .enum-told3 .given .1, c .before .before .before .before .before .before .if1 .taken) (plainly (c .before .before .before .before .before .before .before .before .args .asked) (done .0), done .1)
+    simp (c .before .before .before .before .enum-told3 .given .1, c .before .before .before .before .before .before .if1 .taken) (plainly (c .before .before .before .before .before .before .before .before .args .wanted) (done .0), done .1)
 
 same-length-4 : tie.Need-same-length-4
 same-length-4 c = search needs
 
 returns-4 : tie.Need-returns-4
-returns-4 c = simp (c .before .before .before .before .if1 .left) (plainly (c .before .before .before .before .before .before .args .asked) (c .before .before .finish3 .ensures .0), c .before .before .finish3 .ensures .1)
+returns-4 c = simp (c .before .before .before .before .if1 .left) (plainly (c .before .before .before .before .before .before .args .wanted) (c .before .before .finish3 .ensures .0), c .before .before .finish3 .ensures .1)
 
 pub finish-in-spec : {M : Type 1} → statement M
 finish-in-spec =

@@ -70,13 +70,13 @@ plain-requires-7 : tie.Need-plain-requires-7
 plain-requires-7 c κs = search needs
 
 returns : tie.Need-returns
-returns c = simp (c .before .enum-told .given .1) (plainly (c .before .before .before .before .args .asked) (c .plain .ensures), unchanged (c .before .before .before .before .args .image .now) (c .before .before .before .before .pre))
+returns c = simp (c .before .enum-told .given .1) (plainly (c .before .before .before .before .args .wanted) (c .plain .ensures), unchanged (c .before .before .before .before .args .image .now) (c .before .before .before .before .pre))
 
 returns-2 : tie.Need-returns-2
-returns-2 c = simp (c .before .enum-told2 .given .1) (plainly (c .before .before .before .before .args .asked) (c .plain2 .ensures), unchanged (c .before .before .before .before .args .image .now) (c .before .before .before .before .pre))
+returns-2 c = simp (c .before .enum-told2 .given .1) (plainly (c .before .before .before .before .args .wanted) (c .plain2 .ensures), unchanged (c .before .before .before .before .args .image .now) (c .before .before .before .before .pre))
 
 returns-3 : tie.Need-returns-3
-returns-3 c = simp (c .before .enum-told3 .given .1) (plainly (c .before .before .before .before .args .asked) (c .plain3 .ensures), unchanged (c .before .before .before .before .args .image .now) (c .before .before .before .before .pre))
+returns-3 c = simp (c .before .enum-told3 .given .1) (plainly (c .before .before .before .before .args .wanted) (c .plain3 .ensures), unchanged (c .before .before .before .before .args .image .now) (c .before .before .before .before .pre))
 
 same-length : tie.Need-same-length
 same-length c = search needs
@@ -89,7 +89,7 @@ same-length-2 c = search needs
 
 returns-5 : tie.Need-returns-5
 unfolding idled
-returns-5 c = simp (c .before .before .before .before .before .enum-told5 .given .1) (plainly (c .before .before .before .before .before .before .before .before .args .asked) (rw (c .before .before .before .idle .ensures .0) at (c .plain4 .ensures)), c .before .before .before .idle .ensures .1)
+returns-5 c = simp (c .before .before .before .before .before .enum-told5 .given .1) (plainly (c .before .before .before .before .before .before .before .before .args .wanted) (rw (c .before .before .before .idle .ensures .0) at (c .plain4 .ensures)), c .before .before .before .idle .ensures .1)
 
 same-length-3 : tie.Need-same-length-3
 same-length-3 c = search needs
@@ -103,16 +103,16 @@ same-length-4 c = search needs
 
 returns-7 : tie.Need-returns-7
 unfolding recordOf
-returns-7 c = simp (c .before .before .before .before .before .enum-told7 .given .1) (plainly (c .before .before .before .before .before .before .before .before .args .asked) (rw (c .before .before .before .hear-error .ensures .0) at (c .plain5 .ensures)), c .before .before .before .hear-error .ensures .1)
+returns-7 c = simp (c .before .before .before .before .before .enum-told7 .given .1) (plainly (c .before .before .before .before .before .before .before .before .args .wanted) (rw (c .before .before .before .hear-error .ensures .0) at (c .plain5 .ensures)), c .before .before .before .hear-error .ensures .1)
 
 same-length-5 : tie.Need-same-length-5
 same-length-5 c = search needs
 
 returns-8 : tie.Need-returns-8
-returns-8 c = simp (c .before .before .before .before .before .enum-told8 .given .1) (plainly (c .before .before .before .before .before .before .before .before .args .asked) (rw (c .before .before .before .recover .ensures .0) at (c .plain6 .ensures)), c .before .before .before .recover .ensures .1)
+returns-8 c = simp (c .before .before .before .before .before .enum-told8 .given .1) (plainly (c .before .before .before .before .before .before .before .before .args .wanted) (rw (c .before .before .before .recover .ensures .0) at (c .plain6 .ensures)), c .before .before .before .recover .ensures .1)
 
 returns-9 : tie.Need-returns-9
-returns-9 c = simp (c .before .enum-told9 .given .1) (plainly (c .before .before .before .before .args .asked) (c .plain7 .ensures), unchanged (c .before .before .before .before .args .image .now) (c .before .before .before .before .pre))
+returns-9 c = simp (c .before .enum-told9 .given .1) (plainly (c .before .before .before .before .args .wanted) (c .plain7 .ensures), unchanged (c .before .before .before .before .args .image .now) (c .before .before .before .before .pre))
 
 pub happen-spec : {M : Type 1} → statement M
 happen-spec =

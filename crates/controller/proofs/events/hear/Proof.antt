@@ -56,10 +56,10 @@ same-length-2 : tie.Need-same-length-2
 same-length-2 c = search needs
 
 returns-2 : tie.Need-returns-2
-returns-2 c = rw (heard-by (c .before .before .before .before .before .before .before .before .before .before .args .image .now) (c .before .before .before .before .before .before .before .before .before .before .args .frame) Sleep (sym (c .before .before .before .before .before .before .before .mode-of .ensures) ∙ c .before .before .before .before .before .enum-told2 .given .1)) (rw (asleep (coreOf (c .before .before .before .before .before .before .before .before .before .before .args .image .now))) (plainly (c .before .before .before .before .before .before .before .before .before .before .args .asked) (rw (c .before .before .before .sleep .ensures .0) at (c .unheard .ensures))), c .before .before .before .sleep .ensures .1)
+returns-2 c = rw (heard-by (c .before .before .before .before .before .before .before .before .before .before .args .image .now) (c .before .before .before .before .before .before .before .before .before .before .args .frame) Sleep (sym (c .before .before .before .before .before .before .before .mode-of .ensures) ∙ c .before .before .before .before .before .enum-told2 .given .1)) (rw (asleep (coreOf (c .before .before .before .before .before .before .before .before .before .before .args .image .now))) (plainly (c .before .before .before .before .before .before .before .before .before .before .args .wanted) (rw (c .before .before .before .sleep .ensures .0) at (c .unheard .ensures))), c .before .before .before .sleep .ensures .1)
 
 returns-3 : tie.Need-returns-3
-returns-3 c = rw (heard-by (c .before .before .before .before .before .before .args .image .now) (c .before .before .before .before .before .before .args .frame) Loopback (sym (c .before .before .before .mode-of .ensures) ∙ c .before .enum-told3 .given .1)) (plainly (c .before .before .before .before .before .before .args .asked) (c .unheard2 .ensures), unchanged (c .before .before .before .before .before .before .args .image .now) (c .before .before .before .before .before .before .pre))
+returns-3 c = rw (heard-by (c .before .before .before .before .before .before .args .image .now) (c .before .before .before .before .before .before .args .frame) Loopback (sym (c .before .before .before .mode-of .ensures) ∙ c .before .enum-told3 .given .1)) (plainly (c .before .before .before .before .before .before .args .wanted) (c .unheard2 .ensures), unchanged (c .before .before .before .before .before .before .args .image .now) (c .before .before .before .before .before .before .pre))
 
 same-length-3 : tie.Need-same-length-3
 same-length-3 c = search needs
@@ -68,7 +68,7 @@ returns-4 : tie.Need-returns-4
 returns-4 c = rw (heard-by (c .before .before .before .before .before .before .before .before .before .args .image .now) (c .before .before .before .before .before .before .before .before .before .args .frame) ListenOnly (sym (c .before .before .before .before .before .before .mode-of .ensures) ∙ c .before .before .before .before .enum-told4 .given .1)) (c .before .before .hear-only .ensures)
 
 returns-5 : tie.Need-returns-5
-returns-5 c = rw (heard-by (c .before .before .before .before .before .before .args .image .now) (c .before .before .before .before .before .before .args .frame) Configuration (sym (c .before .before .before .mode-of .ensures) ∙ c .before .enum-told5 .given .1)) (plainly (c .before .before .before .before .before .before .args .asked) (c .unheard3 .ensures), unchanged (c .before .before .before .before .before .before .args .image .now) (c .before .before .before .before .before .before .pre))
+returns-5 c = rw (heard-by (c .before .before .before .before .before .before .args .image .now) (c .before .before .before .before .before .before .args .frame) Configuration (sym (c .before .before .before .mode-of .ensures) ∙ c .before .enum-told5 .given .1)) (plainly (c .before .before .before .before .before .before .args .wanted) (c .unheard3 .ensures), unchanged (c .before .before .before .before .before .before .args .image .now) (c .before .before .before .before .before .before .pre))
 
 pub hear-spec : {M : Type 1} → statement M
 hear-spec =

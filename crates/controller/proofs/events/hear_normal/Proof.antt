@@ -21,7 +21,7 @@ same-length : tie.Need-same-length
 same-length c = search needs
 
 returns : tie.Need-returns
-returns c = simp (sym (c .before .before .is-bus-off .ensures) ∙ c .before .if1 .taken) (plainly (c .before .before .before .before .before .args .asked) (c .unheard .ensures), unchanged (c .before .before .before .before .before .args .image .now) (c .before .before .before .before .before .pre))
+returns c = simp (sym (c .before .before .is-bus-off .ensures) ∙ c .before .if1 .taken) (plainly (c .before .before .before .before .before .args .wanted) (c .unheard .ensures), unchanged (c .before .before .before .before .before .args .image .now) (c .before .before .before .before .before .pre))
 
 receive-requires : tie.Need-receive-requires
 receive-requires c κs = search needs
@@ -36,7 +36,7 @@ returns-2 : tie.Need-returns-2
 returns-2 c =
     let a = c .before .before .before .before .before .before .before .before .before .before .before .before .args in
     let w =
-    received (a .asked) (a .frame) (unchanged (a .image .now) (c .before .before .before .before .before .before .before .before .before .before .before .before .pre)) (c .before .before .before .before .before .before .receive .ensures .0) (c .before .before .before .before .before .before .receive .ensures .1) in
+    received (a .wanted) (a .frame) (unchanged (a .image .now) (c .before .before .before .before .before .before .before .before .before .before .before .before .pre)) (c .before .before .before .before .before .before .receive .ensures .0) (c .before .before .before .before .before .before .receive .ensures .1) in
     simp (sym (c .before .before .before .before .before .before .before .before .before .is-bus-off .ensures) ∙ c .before .before .before .before .before .before .before .before .if1 .left, ← received-counters (coreOf (a .image .now)) (a .frame))
     (w .0, followed (λ (k : Core). withControl k (movedTo (k .control) (recLess (k .control .counters)))) (w .1) (c .before .before .count-good .ensures))
 

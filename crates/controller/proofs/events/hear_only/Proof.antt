@@ -15,7 +15,7 @@ same-length : tie.Need-same-length
 same-length c = search needs
 
 returns : tie.Need-returns
-returns c = simp (sym (c .before .before .is-bus-off .ensures) ∙ c .before .if1 .taken) (plainly (c .before .before .before .before .before .args .asked) (c .unheard .ensures), unchanged (c .before .before .before .before .before .args .image .now) (c .before .before .before .before .before .pre))
+returns c = simp (sym (c .before .before .is-bus-off .ensures) ∙ c .before .if1 .taken) (plainly (c .before .before .before .before .before .args .wanted) (c .unheard .ensures), unchanged (c .before .before .before .before .before .args .image .now) (c .before .before .before .before .before .pre))
 
 receive-requires : tie.Need-receive-requires
 receive-requires c κs = search needs
@@ -24,7 +24,7 @@ same-length-2 : tie.Need-same-length-2
 same-length-2 c = search needs
 
 returns-2 : tie.Need-returns-2
-returns-2 c = simp (sym (c .before .before .before .before .before .is-bus-off .ensures) ∙ c .before .before .before .before .if1 .left) (received (c .before .before .before .before .before .before .before .before .args .asked) (c .before .before .before .before .before .before .before .before .args .frame) (unchanged (c .before .before .before .before .before .before .before .before .args .image .now) (c .before .before .before .before .before .before .before .before .pre)) (c .before .before .receive .ensures .0) (c .before .before .receive .ensures .1))
+returns-2 c = simp (sym (c .before .before .before .before .before .is-bus-off .ensures) ∙ c .before .before .before .before .if1 .left) (received (c .before .before .before .before .before .before .before .before .args .wanted) (c .before .before .before .before .before .before .before .before .args .frame) (unchanged (c .before .before .before .before .before .before .before .before .args .image .now) (c .before .before .before .before .before .before .before .before .pre)) (c .before .before .receive .ensures .0) (c .before .before .receive .ensures .1))
 
 pub hear-only-spec : {M : Type 1} → statement M
 hear-only-spec =

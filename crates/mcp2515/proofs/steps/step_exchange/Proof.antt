@@ -11,11 +11,11 @@ use Rattle.mcp2515.proofs.steps.step_exchange.Tie as tie
 slice-read-if1 : tie.Need-slice-read-if1
 slice-read-if1 c = search needs
 
-refuse-requires : tie.Need-refuse-requires
-refuse-requires c κs = search needs
+refused-requires : tie.Need-refused-requires
+refused-requires c κs = search needs
 
 returns : tie.Need-returns
-returns c = (rw (c .before .if1 .taken) (c .refuse .ensures), (rw (c .before .if1 .taken) (rw (c .before .if1 .taken) at (turned-by (lined (c .before .before .before .before .args .image .now) (c .before .before .before .before .pre)))), λ _. refl))
+returns c = (rw (c .before .if1 .taken) (c .refused .ensures), (rw (c .before .if1 .taken) (rw (c .before .if1 .taken) at (turned-by (lined (c .before .before .before .before .args .image .now) (c .before .before .before .before .pre)))), λ _. refl))
 
 exchange-requires : tie.Need-exchange-requires
 exchange-requires c κs = search needs
@@ -34,7 +34,7 @@ step-exchange-spec =
     tie.close
     (tie.spec
     slice-read-if1
-    refuse-requires
+    refused-requires
     returns
     exchange-requires
     accept-requires

@@ -12,11 +12,11 @@ use Rattle.mcp2515.proofs.steps.step_high.Tie as tie
 slice-read-if1 : tie.Need-slice-read-if1
 slice-read-if1 c = search needs
 
-refuse-requires : tie.Need-refuse-requires
-refuse-requires c κs = search needs
+refused-requires : tie.Need-refused-requires
+refused-requires c κs = search needs
 
 returns : tie.Need-returns
-returns c = (rw (c .before .if1 .taken) (c .refuse .ensures), (rw (c .before .if1 .taken) (rw (c .before .if1 .taken) at (turned-by (lined (c .before .before .before .before .args .image .now) (c .before .before .before .before .pre)))), λ _. refl))
+returns c = (rw (c .before .if1 .taken) (c .refused .ensures), (rw (c .before .if1 .taken) (rw (c .before .if1 .taken) at (turned-by (lined (c .before .before .before .before .args .image .now) (c .before .before .before .before .pre)))), λ _. refl))
 
 close-requires : tie.Need-close-requires
 close-requires c κs = search needs
@@ -35,7 +35,7 @@ step-high-spec =
     tie.close
     (tie.spec
     slice-read-if1
-    refuse-requires
+    refused-requires
     returns
     close-requires
     accept-requires

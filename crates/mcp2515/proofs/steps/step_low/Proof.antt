@@ -22,11 +22,11 @@ same-length c = search needs
 returns : tie.Need-returns
 returns c = rw (c .before .before .before .before .before .if1 .taken) (c .accept .ensures, (c .before .before .before .«open» .ensures .image (c .before .before .before .before .before .before .before .before .pre), λ refused. absurd (refused (ap (λ (o : Outcome). o .refusal) (c .accept .ensures)))))
 
-refuse-requires : tie.Need-refuse-requires
-refuse-requires c κs = search needs
+refused-requires : tie.Need-refused-requires
+refused-requires c κs = search needs
 
 returns-2 : tie.Need-returns-2
-returns-2 c = rw (ne-eqb _ 0 (c .before .if1 .left)) (c .refuse .ensures, (stayed (c .before .before .before .before .args .image .now) (openOf (c .before .before .before .before .args .image .now)) (c .before .before .before .before .pre) (c .before .if1 .left) refl, λ _. refl))
+returns-2 c = rw (ne-eqb _ 0 (c .before .if1 .left)) (c .refused .ensures, (stayed (c .before .before .before .before .args .image .now) (openOf (c .before .before .before .before .args .image .now)) (c .before .before .before .before .pre) (c .before .if1 .left) refl, λ _. refl))
 
 pub step-low-spec : {M : Type 1} → statement M
 step-low-spec =
@@ -37,5 +37,5 @@ step-low-spec =
     accept-requires
     same-length
     returns
-    refuse-requires
+    refused-requires
     returns-2)

@@ -15,11 +15,11 @@ kind-by-requires c κs = search needs
 is-sound-plain-requires : tie.Need-is-sound-plain-requires
 is-sound-plain-requires c κs = search needs
 
-refuse-requires : tie.Need-refuse-requires
-refuse-requires c κs = search needs
+refused-requires : tie.Need-refused-requires
+refused-requires c κs = search needs
 
 returns : tie.Need-returns
-returns c = let f = c .before .before .before .before .before .args .fields in let e : soundPlain (kindBy (f .kind)) (recordOf f) ≡ false = rw (c .before .before .before .kind-by .ensures) at (sym (c .before .before .is-sound-plain .ensures) ∙ unless _ (c .before .if1 .taken)) in let q = unsound-step (chipOf (c .before .before .before .before .before .args .image .now)) f (c .before .before .before .before .before .pre .1) e in (told-as (chipOf (c .before .before .before .before .before .args .image .now)) (recordOf f) q (c .refuse .ensures), (moved-as (chipOf (c .before .before .before .before .before .args .image .now)) (recordOf f) q (turned-moved (turned-by (lined (c .before .before .before .before .before .args .image .now) (c .before .before .before .before .before .pre .0)))), λ _. refl))
+returns c = let f = c .before .before .before .before .before .args .fields in let e : soundPlain (kindBy (f .kind)) (recordOf f) ≡ false = rw (c .before .before .before .kind-by .ensures) at (sym (c .before .before .is-sound-plain .ensures) ∙ unless _ (c .before .if1 .taken)) in let q = unsound-step (chipOf (c .before .before .before .before .before .args .image .now)) f (c .before .before .before .before .before .pre .1) e in (told-as (chipOf (c .before .before .before .before .before .args .image .now)) (recordOf f) q (c .refused .ensures), (moved-as (chipOf (c .before .before .before .before .before .args .image .now)) (recordOf f) q (turned-moved (turned-by (lined (c .before .before .before .before .before .args .image .now) (c .before .before .before .before .before .pre .0)))), λ _. refl))
 
 step-exchange-requires : tie.Need-step-exchange-requires
 step-exchange-requires c κs = search needs
@@ -54,7 +54,7 @@ step-spi-spec =
     (tie.spec
     kind-by-requires
     is-sound-plain-requires
-    refuse-requires
+    refused-requires
     returns
     step-exchange-requires
     same-length

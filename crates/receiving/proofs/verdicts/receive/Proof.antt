@@ -1,4 +1,4 @@
-use mathlib.Core.Path.{refl, ap}
+use mathlib.Core.Path.{ap}
 use Rattle.registers.specs.declared.Core.{Core}
 use Rattle.registers.specs.State.{withRxBytes}
 use Rattle.image.proofs.Laws.{followed, acted, passed, answered, unanswered}
@@ -8,8 +8,11 @@ use borrow.Author.Needs.{needs}
 use Rattle.receiving.proofs.verdicts.receive.Statement.{statement}
 use Rattle.receiving.proofs.verdicts.receive.Tie as tie
 
+unheard-requires : tie.Need-unheard-requires
+unheard-requires c κs = search needs
+
 returns : tie.Need-returns
-returns c = (unanswered (c .if1 .taken) refl, passed (c .if1 .taken))
+returns c = (unanswered (c .before .if1 .taken) (c .unheard .ensures), passed (c .before .if1 .taken))
 
 match-of-requires : tie.Need-match-of-requires
 match-of-requires c κs = search needs
@@ -47,6 +50,7 @@ pub receive-spec : {M : Type 1} → statement M
 receive-spec =
     tie.close
     (tie.spec
+    unheard-requires
     returns
     match-of-requires
     mark-requires
