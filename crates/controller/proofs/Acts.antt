@@ -1,5 +1,5 @@
 -- What the acts on an image have in common, and what the image says of mode, flight and messages. Assumes nothing.
-use mathlib.Core.Path.{_≡_, refl, ap, _∙_}
+use mathlib.Core.Path.{_≡_, refl, ap, sym, _∙_}
 use mathlib.Core.Bool.{Bool, true, false, cond}
 use mathlib.Core.List.{List}
 use Prim.Native.Nat.{ℕ, _+_, _<_, _≤_}
@@ -19,7 +19,7 @@ use Rattle.registers.specs.declared.Control.{Control}
 use Rattle.registers.specs.declared.Core.{Core}
 use Rattle.registers.specs.State.{WAKIF, txNumber, isLoopback, withFlight, withControl}
 use Rattle.receiving.specs.declared.Reception.the-variants.{Woke}
-use Rattle.receiving.specs.Receiving.{receivedOf}
+use Rattle.receiving.specs.Receiving.{receptionNumber, receivedOf}
 use Rattle.receiving.specs.AnswerSets.{wantedSet, AnswerSet, answerSetTo, plainAnswer}
 use Rattle.image.specs.Image.{imageSize, modeOf, flightOf, decoded, controlOf, coreOf, Became, Acted, Answered}
 use Rattle.image.proofs.Laws.{flight-back, unmarked, mark-one, marked, followed}
@@ -46,12 +46,18 @@ pub refusal-wanted : (wanted : Bool) (n : ℕ) → refusedOutcome n ≡ record {
 refusal-wanted true n = refl
 refusal-wanted false n = refl
 
-pub asleep : (k : Core) → sleeping k .matched ≡ 0
+asleep : (k : Core) → sleeping k .matched ≡ 0
 asleep k = go (hasBit (k .control .flags .caninte) WAKIF)
   where
     go : (b : Bool) → cond b (record { core = withControl k (wokenControl (k .control)); answer = Woke; matched = 0 }) (ignored k) .matched ≡ 0
     go true = refl
     go false = refl
+
+-- in Sleep no filter is asked
+pub slept : (wanted : Bool) (k : Core) {r : AnswerSet} → r ≡ plainAnswer (receptionNumber (sleeping k .answer)) → r ≡ answerSetTo wanted (sleeping k)
+slept wanted k p =
+    plainly wanted p
+    ∙ ap (λ (m : ℕ). record { answer = receptionNumber (sleeping k .answer); matched = wantedSet wanted m }) (sym (asleep k))
 
 -- what an accepted event tells
 abbrev pub acceptedOf : AnswerSet → Outcome

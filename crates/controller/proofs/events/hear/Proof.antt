@@ -2,7 +2,7 @@ use Rattle.image.specs.Image.{coreOf}
 use mathlib.Core.Path.{sym, _∙_}
 use Rattle.registers.specs.declared.Mode.the-variants.{Normal, Sleep, Loopback, ListenOnly, Configuration}
 use Rattle.receiving.proofs.Stored.{unchanged}
-use Rattle.controller.proofs.Acts.{heard-by, plainly, asleep}
+use Rattle.controller.proofs.Acts.{heard-by, plainly, slept}
 use borrow.Author.Needs.{needs}
 use Rattle.controller.proofs.events.hear.Statement.{statement}
 use Rattle.controller.proofs.events.hear.Tie as tie
@@ -56,7 +56,7 @@ same-length-2 : tie.Need-same-length-2
 same-length-2 c = search needs
 
 returns-2 : tie.Need-returns-2
-returns-2 c = rw (heard-by (c .before .before .before .before .before .before .before .before .before .before .args .image .now) (c .before .before .before .before .before .before .before .before .before .before .args .frame) Sleep (sym (c .before .before .before .before .before .before .before .mode-of .ensures) ∙ c .before .before .before .before .before .enum-told2 .given .1)) (rw (asleep (coreOf (c .before .before .before .before .before .before .before .before .before .before .args .image .now))) (plainly (c .before .before .before .before .before .before .before .before .before .before .args .wanted) (rw (c .before .before .before .sleep .ensures .0) at (c .unheard .ensures))), c .before .before .before .sleep .ensures .1)
+returns-2 c = rw (heard-by (c .before .before .before .before .before .before .before .before .before .before .args .image .now) (c .before .before .before .before .before .before .before .before .before .before .args .frame) Sleep (sym (c .before .before .before .before .before .before .before .mode-of .ensures) ∙ c .before .before .before .before .before .enum-told2 .given .1)) (slept (c .before .before .before .before .before .before .before .before .before .before .args .wanted) (coreOf (c .before .before .before .before .before .before .before .before .before .before .args .image .now)) (rw (c .before .before .before .sleep .ensures .0) at (c .unheard .ensures)), c .before .before .before .sleep .ensures .1)
 
 returns-3 : tie.Need-returns-3
 returns-3 c = rw (heard-by (c .before .before .before .before .before .before .args .image .now) (c .before .before .before .before .before .before .args .frame) Loopback (sym (c .before .before .before .mode-of .ensures) ∙ c .before .enum-told3 .given .1)) (plainly (c .before .before .before .before .before .before .args .wanted) (c .unheard2 .ensures), unchanged (c .before .before .before .before .before .before .args .image .now) (c .before .before .before .before .before .before .pre))
