@@ -22,7 +22,7 @@ struct case_group {
 };
 
 /* Tables of cases_marked.c, cases_spi.c, cases_reset.c, cases_bus.c, cases_length.c,
- * cases_match.c and cases_set.c. */
+ * cases_match.c, cases_set.c and cases_pins.c. */
 extern const struct case_group marked_cases; /* W1 to W12, bench errors, refusals */
 extern const struct case_group spi_cases;    /* registers and instructions */
 extern const struct case_group reset_cases;  /* RESET: kept, cleared, and what follows */
@@ -30,6 +30,7 @@ extern const struct case_group bus_cases;    /* receiving, sending, modes, error
 extern const struct case_group length_cases; /* length codes */
 extern const struct case_group match_cases;  /* the bits that filters and masks decide by */
 extern const struct case_group set_cases;    /* all filters that match */
+extern const struct case_group pins_cases;   /* the request pins */
 
 /* All tables one after another, in this order. */
 size_t case_count(void);
@@ -45,6 +46,9 @@ struct tidied_list {
     size_t low; /* select low of the session */
     size_t from;
     size_t to;
+    /* Of a LOAD TX BUFFER that a fall keeps from being listed: whether the fall, put in
+     * front of its select low all the same, changes answers and end state. */
+    enum { NO_FALL, FALL_DIFFERS, FALL_ALIKE } fall;
 };
 
 typedef void tidied_check(const struct tidied_list *t);
@@ -52,8 +56,9 @@ typedef void tidied_check(const struct tidied_list *t);
 /* Hands every list of cases_tidy.c to check. */
 void tidied_lists(tidied_check *check);
 
-/* The record at place i of the tidied list. */
+/* The record at place i of the tidied list, and of the list with its event in front. */
 size_t tidied_record(const struct tidied_list *t, size_t i);
+size_t fronted_record(const struct tidied_list *t, size_t i);
 
 /* Two logs, the room lent, and what comparing them must give. */
 struct pair_case {
@@ -72,5 +77,9 @@ void pair_cases(pair_check *check);
 
 /* Shared steps. */
 void case_errors(struct script *s, unsigned buffer, unsigned count); /* idle, own frame in error */
+
+/* What TXRTSCTRL shows: its enables, and in bits 5-3 the levels of the other pins. */
+enum { ALL_PINS = 7 };
+uint8_t case_txrtsctrl(uint8_t enables, uint8_t levels);
 
 #endif

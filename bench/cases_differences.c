@@ -382,6 +382,42 @@ static void later_answers(void)
                    });
 }
 
+/* TX1RTS, enabled, falls in the first log alone: there TXB1 goes. The frame's end takes both
+ * to the same chip but for the level, which shows once the pin is not enabled. */
+static void one_pin(void)
+{
+    for (unsigned i = 0; i < 2; i++) {
+        struct script *s = i == 0 ? &first : &second;
+        sc_write(s, TXRTSCTRL, 2);
+        sc_mode(s, MODE_LOOPBACK);
+        sc_pin(s, 1, i == 0 ? 0 : 1);
+        sc_read(s, TXRTSCTRL, 0x2A);
+        sc_idle(s, i == 0 ? 1 : NO_FLIGHT);
+        if (i == 0)
+            sc_end(s, END_SENT, RX_IN_RXB0);
+        else
+            sc_refused(s, REFUSED_NO_FLIGHT, KIND_FRAME_ENDS, END_SENT);
+        sc_reset(s);
+        sc_read(s, TXRTSCTRL, i == 0 ? 0x28 : 0x38);
+    }
+    expect_entries("one request pin differs", 4,
+                   (const uint8_t[]){
+                       0, 0, 0, 11, 0, 0x00, 0, 0x00, 0x00, 0x00,
+                       0, 0, 0, 17, 0, 0x01, 0, 0x03, 0x00, 0x00,
+                       0, 0, 0, 18, 0, 0x01, 4, 0x00, 0x3F, 0x00,
+                       0, 0, 0, 25, 0, 0x28, 0, 0x38, 0x00, 0x00,
+                   });
+}
+
+/* Accepted in one log and refused in the other. */
+static void refused_pin(void)
+{
+    sc_pin(&first, 2, 1);
+    sc_refused(&second, REFUSED_FIELD, KIND_REQUEST_PIN, 3);
+    expect_entries("a request pin against a refused one", 1,
+                   (const uint8_t[]){0, 0, 0, 1, 0, 0, 2, 0, 0, 0});
+}
+
 /* One record more in front: record stands against record by number. */
 static void inserted(void)
 {
@@ -567,6 +603,8 @@ void pair_cases(pair_check *check)
     answer_and_set();
     refusal_and_set();
     later_answers();
+    one_pin();
+    refused_pin();
     inserted();
     high_numbers();
     leftovers();

@@ -5,7 +5,7 @@
 
 static const struct case_group *const groups[] = {&marked_cases, &spi_cases, &reset_cases,
                                                   &bus_cases, &length_cases, &match_cases,
-                                                  &set_cases};
+                                                  &set_cases, &pins_cases};
 
 size_t case_count(void)
 {
@@ -239,7 +239,7 @@ static void refusal_1(struct script *s)
 
 static void unnamed_bytes(struct script *s)
 {
-    static const uint8_t named[KINDS] = {0, 1, 0, 2, 0, 1, 1, 0}; /* 3 is named in part */
+    static const uint8_t named[KINDS] = {0, 1, 0, 2, 0, 1, 1, 0, 2}; /* 3 is named in part */
     for (uint8_t kind = 0; kind < KINDS; kind++)
         for (unsigned i = named[kind] + 1u; i < RECORD_BYTES; i++) {
             uint8_t record[RECORD_BYTES] = {kind};

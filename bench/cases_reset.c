@@ -9,7 +9,7 @@ static const uint8_t filter_at[6] = {RXF0SIDH, RXF1SIDH, RXF2SIDH, RXF3SIDH, RXF
 
 /* ---- shared steps ---- */
 
-/* Every address after RESET: 80h, 87h, the kept bytes, and 0. */
+/* Every address after RESET: 80h, 87h, the kept bytes, the high pins, and 0. */
 static void read_map(struct script *s, const uint8_t kept[ADDRESSES])
 {
     sc_low(s);
@@ -17,7 +17,11 @@ static void read_map(struct script *s, const uint8_t kept[ADDRESSES])
     sc_xfer(s, 0, 0);
     for (unsigned a = 0; a < ADDRESSES; a++) {
         unsigned low = a & LOW_DIGIT;
-        sc_xfer(s, 0, low == CANSTAT ? 0x80 : low == CANCTRL ? 0x87 : kept[a]);
+        sc_xfer(s, 0,
+                low == CANSTAT   ? 0x80
+                : low == CANCTRL ? 0x87
+                : a == TXRTSCTRL ? 0x38
+                                 : kept[a]);
     }
     sc_high(s);
 }
@@ -143,7 +147,8 @@ static void keeps_bytes_past_the_length_code(struct script *s)
 
 /* ---- cleared ---- */
 
-/* What a WRITE of FFh leaves in Configuration; RESET puts all of it to 0. */
+/* What a WRITE of FFh leaves in Configuration; RESET puts all of it to 0, and bits 5-3
+ * of TXRTSCTRL show the pins then. */
 static const uint8_t cleared[][2] = {
     {0x20, 0xFF},     {0x21, 0xE3},     {0x22, 0xFF},     {0x23, 0xFF},     {0x24, 0xFF},
     {0x25, 0xE3},     {0x26, 0xFF},     {0x27, 0xFF},     {BFPCTRL, 0x3F},  {TXRTSCTRL, 0x07},
@@ -159,7 +164,7 @@ static void clears_each_register(struct script *s)
         sc_write(AT, cleared[i][0], 0xFF);
         sc_read(AT, cleared[i][0], cleared[i][1]);
         sc_reset(AT);
-        sc_read(AT, cleared[i][0], 0x00);
+        sc_read(AT, cleared[i][0], cleared[i][0] == TXRTSCTRL ? 0x38 : 0x00);
     }
     for (size_t i = 0; i < sizeof cleared / sizeof *cleared; i++)
         sc_write(AT, cleared[i][0], 0xFF);

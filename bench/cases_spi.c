@@ -17,6 +17,16 @@ static const uint8_t after_ff[128] = {
     0x60, 0x00, 0x00, 0x00, 0x00, 0x00, 0x00, 0x00, 0x00, 0x00, 0x00, 0x00, 0x00, 0x00, 0x80, 0xFF,
 };
 
+/* A byte as it reads after RESET and its WRITE in Configuration, the pins high. */
+static uint8_t after_write(unsigned a, uint8_t value)
+{
+    if (a == RXB0CTRL) /* bit 1 copies BUKT */
+        return (value & (RXM | BUKT)) | (value & BUKT ? BUKT1 : 0);
+    if (a == TXRTSCTRL)
+        return case_txrtsctrl(value & after_ff[a], ALL_PINS);
+    return value & after_ff[a];
+}
+
 /* Addresses that take writes in Configuration only. */
 static const uint8_t config_only[] = {
     0x00, 0x01, 0x02, 0x03, 0x04, 0x05, 0x06, 0x07, 0x08, 0x09, 0x0A, 0x0B,
@@ -31,7 +41,11 @@ static void read_all_at_power_on(struct script *s)
     sc_xfer(AT, 0, 0);
     for (unsigned a = 0; a < 128 + 16; a++) { /* past 7Fh comes 00h again */
         uint8_t low = a & 0x0F;
-        sc_xfer(AT, 0, low == CANSTAT ? 0x80 : low == CANCTRL ? 0x87 : 0x00);
+        sc_xfer(AT, 0,
+                low == CANSTAT           ? 0x80
+                : low == CANCTRL         ? 0x87
+                : (a & 0x7F) == TXRTSCTRL ? 0x38 /* the pins are high */
+                                         : 0x00);
     }
     sc_high(AT);
 }
@@ -50,7 +64,7 @@ static void writable_bits(struct script *s)
         if ((a & 0x0F) == CANSTAT || (a & 0x0F) == CANCTRL)
             continue;
         sc_write(AT, (uint8_t)a, 0x00);
-        sc_read(AT, (uint8_t)a, 0x00);
+        sc_read(AT, (uint8_t)a, a == TXRTSCTRL ? case_txrtsctrl(0, ALL_PINS) : 0x00);
     }
 }
 
@@ -62,7 +76,7 @@ static void configuration_only(struct script *s)
         sc_mode(AT, mode);
         for (size_t i = 0; i < sizeof config_only; i++) {
             uint8_t a = config_only[i];
-            uint8_t kept = 0x5A & after_ff[a];
+            uint8_t kept = after_write(a, 0x5A);
             bool hidden = a < CNF3 && a != TXRTSCTRL; /* filters and masks */
             sc_write(AT, a, 0xFF);
             sc_modify(AT, a, 0xFF, 0xFF);
@@ -70,7 +84,7 @@ static void configuration_only(struct script *s)
         }
         sc_mode(AT, MODE_CONFIGURATION);
         for (size_t i = 0; i < sizeof config_only; i++)
-            sc_read(AT, config_only[i], 0x5A & after_ff[config_only[i]]);
+            sc_read(AT, config_only[i], after_write(config_only[i], 0x5A));
     }
 }
 
@@ -196,14 +210,6 @@ static void addresses_modulo_128(struct script *s)
     sc_read(AT, 0x10, 0x5A);
 }
 
-/* A byte as it reads after RESET and its WRITE in Configuration. */
-static uint8_t after_write(unsigned a, uint8_t value)
-{
-    if (a == RXB0CTRL) /* bit 1 copies BUKT */
-        return (value & (RXM | BUKT)) | (value & BUKT ? BUKT1 : 0);
-    return value & after_ff[a];
-}
-
 /* Each call that takes an address, at all 128 of them with 80h added. */
 static void every_address_above_7f(struct script *s)
 {
@@ -293,8 +299,7 @@ static void runs_over_canctrl(struct script *s)
 static void bit_modify_addresses(struct script *s)
 {
     static const uint8_t masked[][2] = {{BFPCTRL, 0x3F}, {CNF3, 0xC7}, {CNF2, 0xFF}, {CNF1, 0xFF},
-                                        {CANINTE, 0xFF}, {CANINTF, 0xFF}, {TXRTSCTRL, 0x07},
-                                        {RXB1CTRL, 0x60}};
+                                        {CANINTE, 0xFF}, {CANINTF, 0xFF}, {RXB1CTRL, 0x60}};
     for (size_t i = 0; i < sizeof masked / sizeof *masked; i++) {
         uint8_t bits = masked[i][1];
         sc_write(AT, masked[i][0], 0xFF);
@@ -303,6 +308,11 @@ static void bit_modify_addresses(struct script *s)
         sc_modify(AT, masked[i][0], 0x00, 0x00);
         sc_read(AT, masked[i][0], bits & ~0x22);
     }
+    sc_write(AT, TXRTSCTRL, 0xFF);
+    sc_modify(AT, TXRTSCTRL, 0x22, 0x00);
+    sc_read(AT, TXRTSCTRL, 0x15); /* TX1RTS is high */
+    sc_modify(AT, TXRTSCTRL, 0x00, 0x00);
+    sc_read(AT, TXRTSCTRL, 0x15);
     for (uint8_t ctrl = TXB0CTRL; ctrl <= TXB2CTRL; ctrl += 0x10) {
         sc_write(AT, ctrl, 0x02);
         sc_modify(AT, ctrl, 0x09, 0x09);

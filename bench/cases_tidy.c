@@ -26,6 +26,7 @@ __attribute__((format(printf, 2, 3))) static void start(struct tidied_list *t, c
     vsnprintf(t->name, sizeof t->name, format, args);
     va_end(args);
     script_clear(&t->s);
+    t->fall = NO_FALL;
     t->s.file = __FILE__; /* the name tells where */
     t->s.line = __LINE__;
 }
@@ -51,20 +52,37 @@ static void hear(struct tidied_list *t, uint8_t answer, uint8_t set)
     sc_set(&t->s, set);
 }
 
-static void high(struct tidied_list *t, enum place place)
+/* Select high, after which more may follow. */
+static void end_session(struct tidied_list *t, enum place place)
 {
     sc_high(&t->s);
     t->to = place == FRONT ? t->low : place == BEHIND ? t->s.count - 1 : t->from;
+}
+
+static void high(struct tidied_list *t, enum place place)
+{
+    end_session(t, place);
     check_list(t);
+}
+
+/* The record at place i once the event has gone to another place. */
+static size_t with_event_at(const struct tidied_list *t, size_t to, size_t i)
+{
+    if (i == to)
+        return t->from;
+    if (to < t->from)
+        return i > to && i <= t->from ? i - 1 : i;
+    return i >= t->from && i < to ? i + 1 : i;
 }
 
 size_t tidied_record(const struct tidied_list *t, size_t i)
 {
-    if (i == t->to)
-        return t->from;
-    if (t->to < t->from)
-        return i > t->to && i <= t->from ? i - 1 : i;
-    return i >= t->from && i < t->to ? i + 1 : i;
+    return with_event_at(t, t->to, i);
+}
+
+size_t fronted_record(const struct tidied_list *t, size_t i)
+{
+    return with_event_at(t, t->low, i);
 }
 
 /* ---- commands of a few exchanges, whole, cut and with a byte more ---- */
@@ -351,6 +369,215 @@ static void mode_writes(struct tidied_list *t)
                 one_mode_write(t, from, to, before);
 }
 
+/* ---- request pins ---- */
+
+/* What a pin, enabled but for one of these, does inside a command; the last two are refused. */
+enum pin_event {
+    PIN_FALLS,
+    PIN_RISES,
+    PIN_LOW_AGAIN,
+    PIN_HIGH_AGAIN,
+    PIN_FALLS_DISABLED,
+    PIN_NUMBER_3,
+    PIN_DAMAGED, /* a fall but for its last byte */
+    PIN_EVENTS
+};
+
+static const char *const pin_event_name[PIN_EVENTS] = {
+    "fall",           "rise",  "low again",    "high again",
+    "fall, disabled", "pin 3", "damaged fall",
+};
+
+/* In Normal, with pin n as the event wants to meet it. */
+static void before_pin_event(struct script *s, enum pin_event sort, uint8_t n)
+{
+    bool low = sort == PIN_RISES || sort == PIN_LOW_AGAIN;
+    if (low)
+        sc_pin(s, n, 0);
+    sc_write(s, TXRTSCTRL, sort == PIN_FALLS_DISABLED ? ALL_PINS ^ 1u << n : ALL_PINS);
+    sc_mode(s, MODE_NORMAL);
+}
+
+static void pin_event(struct tidied_list *t, enum pin_event sort, uint8_t n)
+{
+    uint8_t record[RECORD_BYTES] = {KIND_REQUEST_PIN, sort == PIN_NUMBER_3 ? 3 : n};
+    bool refused = sort == PIN_NUMBER_3 || sort == PIN_DAMAGED;
+    record[2] = sort == PIN_RISES || sort == PIN_HIGH_AGAIN;
+    record[15] = sort == PIN_DAMAGED;
+    sc_raw(event(t), record, refused ? REFUSED_FIELD : REFUSED_NOT, 0);
+    sc_set(&t->s, 0);
+}
+
+/* The reply to exchange i. READ asks for TXB1CTRL and the byte behind it. */
+static uint8_t pin_reply(uint8_t code, unsigned i, bool requested)
+{
+    if (code == SPI_READ)
+        return i == 2 && requested ? TXREQ : 0;
+    return code == SPI_READ_STATUS && i >= 1 && requested ? 0x10 : 0;
+}
+
+/* WRITE of TXB1CTRL takes a request that came before it; RESET takes request and enables. */
+static void one_pin_command(struct tidied_list *t, size_t c, unsigned exchanges, unsigned before,
+                            enum pin_event sort)
+{
+    uint8_t code = commands[c].code;
+    start(t, "code %02Xh, %u exchanges, pin: %s after %u", code, exchanges, pin_event_name[sort],
+          before);
+    before_pin_event(&t->s, sort, 1);
+    low(t);
+    for (unsigned i = 0; i <= exchanges; i++) {
+        if (i == before)
+            pin_event(t, sort, 1);
+        if (i < exchanges)
+            sc_xfer(&t->s, i == 0 ? code : TXB1CTRL,
+                    pin_reply(code, i, sort == PIN_FALLS && before <= i));
+    }
+    high(t, command_place(code, commands[c].last, exchanges, before));
+}
+
+static void pin_commands(struct tidied_list *t)
+{
+    for (size_t c = 0; c < sizeof commands / sizeof *commands; c++)
+        for (unsigned exchanges = 0; exchanges <= commands[c].last + 1; exchanges++)
+            for (unsigned before = 0; before <= exchanges; before++)
+                for (unsigned sort = 0; sort < PIN_EVENTS; sort++)
+                    one_pin_command(t, c, exchanges, before, sort);
+}
+
+/* READ of TXRTSCTRL itself, which shows the level. */
+static void one_level_read(struct tidied_list *t, uint8_t n, unsigned before)
+{
+    uint8_t shown = before <= 2 ? 0x38 ^ 0x08 << n : 0x38;
+    start(t, "READ of TXRTSCTRL, pin %u falls after %u", n, before);
+    low(t);
+    for (unsigned i = 0; i <= 3; i++) {
+        if (i == before)
+            sc_pin(event(t), n, 0);
+        if (i < 3)
+            sc_xfer(&t->s, i == 0 ? SPI_READ : TXRTSCTRL, i == 2 ? shown : 0);
+    }
+    high(t, before < 3 ? FRONT : BEHIND);
+}
+
+/* WRITE of TXRTSCTRL: the fall meets the enable, or it does not. */
+static void one_enable_write(struct tidied_list *t, uint8_t n, bool enables, unsigned before)
+{
+    bool requests = enables ? before == 3 : before < 3;
+    start(t, "pin %u falls after %u of a WRITE that %s it", n, before,
+          enables ? "enables" : "disables");
+    sc_write(&t->s, TXRTSCTRL, enables ? 0 : ALL_PINS);
+    low(t);
+    for (unsigned i = 0; i <= 3; i++) {
+        if (i == before)
+            sc_pin(event(t), n, 0);
+        if (i < 3)
+            sc_xfer(&t->s, i == 0 ? SPI_WRITE : i == 1 ? TXRTSCTRL : enables ? ALL_PINS : 0, 0);
+    }
+    end_session(t, before < 3 ? FRONT : BEHIND);
+    sc_read(&t->s, (uint8_t)(TXB0CTRL + 0x10 * n), requests ? TXREQ : 0);
+    check_list(t);
+}
+
+static void pin_registers(struct tidied_list *t)
+{
+    for (uint8_t n = 0; n < 3; n++)
+        for (unsigned before = 0; before <= 3; before++) {
+            one_level_read(t, n, before);
+            one_enable_write(t, n, true, before);
+            one_enable_write(t, n, false, before);
+        }
+}
+
+/* READ RX BUFFER has its moment at select high. */
+static void one_pin_read_rx(struct tidied_list *t, uint8_t code, uint8_t n, unsigned before)
+{
+    start(t, "code %02Xh, RXnIF set, pin %u falls after %u", code, n, before);
+    before_pin_event(&t->s, PIN_FALLS, n);
+    sc_write(&t->s, CANINTF, RX0IF | RX1IF);
+    low(t);
+    for (unsigned i = 0; i <= 3; i++) {
+        if (i == before)
+            pin_event(t, PIN_FALLS, n);
+        if (i < 3)
+            sc_xfer(&t->s, i == 0 ? code : 0, 0);
+    }
+    high(t, FRONT);
+}
+
+/* ---- LOAD TX BUFFER and falls of request pins ---- */
+
+enum { LOADED_1 = 0x5A, LOADED_2 = 0xA1 }; /* bits that every TX byte has */
+
+/* A LOAD of two bytes and what it left: the bytes taken, and TXREQ of the pin's buffer. */
+static void load_two(struct tidied_list *t, uint8_t code, uint8_t n, enum pin_event sort,
+                     unsigned before)
+{
+    low(t);
+    for (unsigned i = 0; i <= 3; i++) {
+        if (i == before)
+            pin_event(t, sort, n);
+        if (i < 3)
+            sc_xfer(&t->s, i == 0 ? code : i == 1 ? LOADED_1 : LOADED_2, 0);
+    }
+}
+
+static void read_two(struct tidied_list *t, uint8_t code, bool first, bool second)
+{
+    uint8_t at = (uint8_t)(TXB0CTRL + 8 * (code & 6) + (code & 1 ? D0 : SIDH));
+    sc_low(&t->s);
+    sc_xfer(&t->s, SPI_READ, 0);
+    sc_xfer(&t->s, at, 0);
+    sc_xfer(&t->s, 0, first ? LOADED_1 : 0);
+    sc_xfer(&t->s, 0, second ? LOADED_2 : 0);
+    sc_high(&t->s);
+}
+
+/* A fall between the bytes lets the first in and keeps the second out; in front of the
+ * LOAD it would keep out both. So it stays where it is, also where it changes nothing. */
+static void one_pin_load(struct tidied_list *t, uint8_t code, uint8_t n, enum pin_event sort,
+                         unsigned before)
+{
+    bool own = (code - 0x40) / 2 == n, cuts = own && sort == PIN_FALLS;
+    start(t, "code %02Xh, pin %u: %s after %u", code, n, pin_event_name[sort], before);
+    before_pin_event(&t->s, sort, n);
+    load_two(t, code, n, sort, before);
+    end_session(t, cuts ? STAYS : FRONT);
+    t->fall = !cuts ? NO_FALL : before < 2 ? FALL_ALIKE : FALL_DIFFERS;
+    read_two(t, code, !cuts || before >= 2, !cuts || before >= 3);
+    sc_read(&t->s, (uint8_t)(TXB0CTRL + 0x10 * n), sort == PIN_FALLS ? TXREQ : 0);
+    check_list(t);
+}
+
+/* Under ABAT nothing comes of the fall. It is one all the same. */
+static void one_abat_load(struct tidied_list *t, uint8_t code, uint8_t n, unsigned before)
+{
+    bool own = (code - 0x40) / 2 == n;
+    start(t, "code %02Xh, ABAT, pin %u falls after %u", code, n, before);
+    before_pin_event(&t->s, PIN_FALLS, n);
+    sc_write(&t->s, CANCTRL, ABAT | 0x07);
+    load_two(t, code, n, PIN_FALLS, before);
+    end_session(t, own ? STAYS : FRONT);
+    t->fall = own ? FALL_ALIKE : NO_FALL;
+    read_two(t, code, true, true);
+    sc_read(&t->s, (uint8_t)(TXB0CTRL + 0x10 * n), 0);
+    check_list(t);
+}
+
+static void pin_loads(struct tidied_list *t)
+{
+    for (uint8_t code = 0x40; code <= 0x45; code++)
+        for (uint8_t n = 0; n < 3; n++)
+            for (unsigned before = 0; before <= 3; before++) {
+                for (unsigned sort = 0; sort < PIN_EVENTS; sort++)
+                    one_pin_load(t, code, n, sort, before);
+                one_abat_load(t, code, n, before);
+            }
+    for (unsigned code = 0x90; code <= 0x96; code += 2)
+        for (uint8_t n = 0; n < 3; n++)
+            for (unsigned before = 0; before <= 3; before++)
+                one_pin_read_rx(t, (uint8_t)code, n, before);
+}
+
 void tidied_lists(tidied_check *check)
 {
     struct tidied_list t = {0};
@@ -362,5 +589,8 @@ void tidied_lists(tidied_check *check)
     load_tx_busy(&t);
     own_ends(&t);
     mode_writes(&t);
+    pin_commands(&t);
+    pin_registers(&t);
+    pin_loads(&t);
     script_free(&t.s);
 }

@@ -3,6 +3,7 @@
 #include <stddef.h>
 #include <string.h>
 
+#include "mcp2515.h"
 #include "registers.h"
 
 enum {
@@ -21,10 +22,18 @@ enum {
     AT_MODE,
     AT_FLIGHT,
     AT_REQUEST,
-    AT_OPEN,
+    AT_PINS,
+    AT_OPEN = AT_PINS + REQUEST_PINS,
     AT_ADDRESS,
     AT_MASK
 };
+
+_Static_assert((int)AT_TEC_LOW == MCP2515_PLACE_TEC_LOW, "place of TEC's low byte");
+_Static_assert((int)AT_TEC_HIGH == MCP2515_PLACE_TEC_HIGH, "place of TEC's high byte");
+_Static_assert((int)AT_FLIGHT == MCP2515_PLACE_FLIGHT, "place of the flight");
+_Static_assert((int)AT_REQUEST == MCP2515_PLACE_MODE_REQUESTED, "place of the mode request");
+_Static_assert((int)AT_PINS == MCP2515_PLACE_PINS, "place of the pins");
+_Static_assert((int)AT_OPEN == MCP2515_PLACE_OPEN, "place of the open instruction");
 
 /* Place AT_OPEN by number; READ RX BUFFER goes on as a READ that clears a flag. */
 static const struct {
@@ -44,6 +53,8 @@ static void decode_registers(const uint8_t *chip, struct model *m)
     for (unsigned row = 0; row < sizeof m->reg; row += 0x10)
         m->reg[row + CANSTAT] = m->reg[row + CANCTRL] = 0;
     m->reg[TEC] = m->reg[REC] = 0;
+    for (unsigned n = 0; n < REQUEST_PINS; n++) /* shown from the levels, not stored */
+        m->reg[TXRTSCTRL] &= (uint8_t)~(B0RTS << n);
     m->reg[CANCTRL] = chip[AT_CANCTRL];
     m->reg[CANINTE] = chip[AT_CANINTE];
     m->reg[CANINTF] = chip[AT_CANINTF];
@@ -82,5 +93,7 @@ void chip_decode(const uint8_t *chip, struct model *m)
     m->mode = chip[AT_MODE] < MODE_CONFIGURATION ? chip[AT_MODE] : MODE_CONFIGURATION;
     m->flight = chip[AT_FLIGHT] < NO_FLIGHT ? chip[AT_FLIGHT] : NO_FLIGHT;
     m->request = chip[AT_REQUEST] < MODES ? chip[AT_REQUEST] : NO_REQUEST;
+    for (unsigned n = 0; n < REQUEST_PINS; n++)
+        m->level[n] = chip[AT_PINS + n] != 0;
     decode_open(chip, m);
 }

@@ -2,7 +2,8 @@
  * The proved whole-log call against the second model, and with the sets the
  * same logs record by record: fixed cases, the whole-log rule, random logs of
  * every sort, and the tidied list seen from outside. The first difference ends
- * the run with status 1. Sets of every sort are counted, and none may be rare.
+ * the run with status 1. Sets and pin records of every sort are counted, and none
+ * may be rare.
  *
  *   compare [records [seed]]
  */
@@ -18,6 +19,7 @@
 #include "gen.h"
 #include "mcp2515.h"
 #include "model.h"
+#include "pins_met.h"
 #include "registers.h"
 #include "script.h"
 #include "sets_met.h"
@@ -133,7 +135,7 @@ static void stop_at_record(const char *what, const uint8_t *log, size_t i, const
 
 enum { OWN_IN_FLIGHT, NOT_LISTENING, WOKE, NOT_HEARD };
 
-static unsigned long long sets_met[SETS_MET], would_match[NOT_HEARD];
+static unsigned long long sets_met[SETS_MET], would_match[NOT_HEARD], pins_met[PINS_MET];
 
 /* A frame that the chip did not receive, if filters would have matched it. */
 static void count_not_heard(const struct model *m, const uint8_t *record, const uint8_t *outcome)
@@ -178,7 +180,9 @@ static void compare_sets(const uint8_t *log, size_t records, struct call *c)
         const uint8_t *record = log + RECORD_BYTES * i;
         bool loopback = m.mode == MODE_LOOPBACK;
         uint8_t want[OUTCOME_BYTES], got[OUTCOME_BYTES] = {GUARD, GUARD, GUARD};
+        struct model before = m;
         model_step_set(&m, record, &want[0], &want[1], &want[2]);
+        count_pin(pins_met, &before, record, want[0]);
         if (mcp2515_step_set(chip, sizeof chip, record, RECORD_BYTES, got, sizeof got) !=
             OUTCOME_BYTES)
             stop("result of mcp2515_step_set");
@@ -217,6 +221,17 @@ static void demand_sets(unsigned long long records)
         snprintf(text, sizeof text, "no set, %s, though filters match", not_heard_name[i]);
         demand(text, would_match[i], records / 10000);
     }
+}
+
+static void demand_pins(unsigned long long records, const struct tidy_tally *tally)
+{
+    for (unsigned i = 0; i < PINS_MET; i++)
+        demand(pin_met_name[i], pins_met[i], records / 50000);
+    demand("LOAD TX BUFFER not listed for nothing but a fall", tally->unlisted_by_fall,
+           records / 50000);
+    demand("pin record moved in front of a command", tally->pins_before, records / 5000);
+    demand("pin record moved behind a command", tally->pins_after, records / 5000);
+    demand("refused pin record moved with a command", tally->refused_pins, records / 5000);
 }
 
 /* Runs a log by both and compares; model_answers gets the model's answers. */
@@ -291,10 +306,40 @@ static void check_cases(void)
     script_free(&s);
 }
 
+static unsigned fall_differs, fall_alike;
+
+/* A LOAD that a fall keeps from the list. The fall in front of it all the same gives other
+ * answers, unless the case says that it does not. */
+static void check_fall(const struct tidied_list *t)
+{
+    size_t records = t->s.count, differ = 0;
+    uint8_t *fronted = malloc(RECORD_BYTES * records), *answers = malloc(2 * records);
+    uint8_t *as_came = malloc(2 * records);
+    for (size_t i = 0; i < records; i++)
+        memcpy(fronted + RECORD_BYTES * i, t->s.records + RECORD_BYTES * fronted_record(t, i),
+               RECORD_BYTES);
+    memcpy(as_came,
+           compare_log(t->s.records, RECORD_BYTES * records, 2 * records, 0, answers).answers,
+           2 * records);
+    struct call c = compare_log(fronted, RECORD_BYTES * records, 2 * records, 0, answers);
+    for (size_t i = 0; i < records; i++)
+        differ += memcmp(as_came + 2 * fronted_record(t, i), c.answers + 2 * i, 2) != 0;
+    if ((differ > 0) != (t->fall == FALL_DIFFERS)) {
+        printf("%s: %zu records answer otherwise with the fall in front\n", t->name, differ);
+        stop("a LOAD that a fall keeps from the list");
+    }
+    *(t->fall == FALL_DIFFERS ? &fall_differs : &fall_alike) += 1;
+    free(fronted);
+    free(answers);
+    free(as_came);
+}
+
 /* Lists tidied by hand, as they came and tidied, by the answers of the hand; the sets of both
  * are the same. */
 static void check_tidied_list(const struct tidied_list *t)
 {
+    if (t->fall != NO_FALL)
+        check_fall(t);
     struct script tidied;
     uint8_t *sets = malloc(t->s.count);
     memcpy(sets, check_case(t->name, &t->s).sets, t->s.count);
@@ -420,7 +465,8 @@ static void check_random(uint64_t *state, unsigned long long records, uint8_t *l
 /* ---- the tidied list ---- */
 
 /* Records that make the end state show in the answers: every register, the
- * statuses, a flight, and after ABAT and Configuration the filters. */
+ * statuses, a flight, after ABAT and Configuration the filters, and without an
+ * enable the levels of all pins. */
 static void end_probe(struct script *s)
 {
     script_clear(s);
@@ -438,6 +484,8 @@ static void end_probe(struct script *s)
         sc_end(s, END_SENT, 0);
         sc_write(s, CANCTRL, 0x80 | ABAT);
     }
+    sc_write(s, TXRTSCTRL, 0);
+    sc_read(s, TXRTSCTRL, 0);
 }
 
 static void check_map(const uint8_t *log, size_t records, const size_t *map,
@@ -517,7 +565,10 @@ int main(int argc, char **argv)
     printf("events moved: %lu before, %lu after\n", tally.events_before, tally.events_after);
     printf("met:\n");
     demand("set of a fixed case, worked out by hand", sets_by_hand, 1);
+    demand("LOAD cut by a fall that tidying would change", fall_differs, 1);
+    demand("LOAD cut by a fall that tidying would not change", fall_alike, 1);
     demand_sets(records);
+    demand_pins(records, &tally);
     free(log);
     free(model_answers);
     printf("no difference\n");

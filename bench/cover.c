@@ -520,6 +520,12 @@ static bool buffer_was_ready(const struct cover *c)
     return !(m->reg[TXB0CTRL + 0x10 * n] & TXREQ) && m->flight != n;
 }
 
+bool cover_loads(const struct cover *c)
+{
+    bool load = c->exchanges > 0 && c->code >= SPI_LOAD_TX && c->code < SPI_LOAD_TX + 6;
+    return load && buffer_was_ready(c) && c->exchanges <= (c->code & 1 ? 9u : 14u);
+}
+
 static void session_ended(struct cover *c, const struct model *before)
 {
     uint8_t rose = before->reg[CANINTF] & ~c->at_low.reg[CANINTF];
@@ -601,6 +607,7 @@ struct model cover_log(struct cover *c, const uint8_t *log, size_t records)
     forget_mode(c);
     c->reset_flight = false;
     c->set_before = 0;
+    memset(&c->pins, 0, sizeof c->pins);
     memset(c->in_hand, 0, sizeof c->in_hand);
     for (size_t i = 0; i < records; i++) {
         struct model before = m;
@@ -608,6 +615,7 @@ struct model cover_log(struct cover *c, const uint8_t *log, size_t records)
         model_step_set(&m, log + RECORD_BYTES * i, &refusal, &answer, &set);
         cover_set(c, &before, log + RECORD_BYTES * i, refusal, answer, set);
         cover_step(c, &before, log + RECORD_BYTES * i, refusal, answer, &m);
+        cover_pins(c, &before, log + RECORD_BYTES * i, refusal, &m);
     }
     hit_if(c, m.selected, COVER_ENDS_OPEN);
     return m;

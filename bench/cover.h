@@ -219,7 +219,65 @@
     X(SET_END_REFUSED, "none for a refused end in Loopback")            \
     X(SET_REPLY, "none for an exchange that replies")                   \
     X(SET_IDLE, "none for bus idle that answers 1 to 3")                \
-    X(SET_GONE, "none for the record after one with a set")
+    X(SET_GONE, "none for the record after one with a set")             \
+    X(PIN_REQUESTS_0, "TXB0 requested by a fall")                       \
+    X(PIN_REQUESTS_1, "TXB1 requested by a fall")                       \
+    X(PIN_REQUESTS_2, "TXB2 requested by a fall")                       \
+    X(PIN_MODE_0, "requested in Normal")                                \
+    X(PIN_MODE_1, "requested in Sleep")                                 \
+    X(PIN_MODE_2, "requested in Loopback")                              \
+    X(PIN_MODE_3, "requested in Listen-Only")                           \
+    X(PIN_MODE_4, "requested in Configuration")                         \
+    X(PIN_IN_SESSION, "requested inside a session")                     \
+    X(PIN_BEFORE_CODE, "requested between select low and code")         \
+    X(PIN_OTHER_FLIGHT, "requested while another buffer flies")         \
+    X(PIN_OWN_FLIGHT, "requested again in its own flight")              \
+    X(PIN_BUS_OFF, "requested in bus-off")                              \
+    X(PIN_CLEARS_TXERR, "TXERR cleared by a fall")                      \
+    X(PIN_CLEARS_MLOA, "MLOA cleared by a fall")                        \
+    X(PIN_CLEARS_ABTF, "ABTF cleared by a fall")                        \
+    X(PIN_KEEPS_TXERR, "TXERR kept, TXREQ was set")                     \
+    X(PIN_KEEPS_MLOA, "MLOA kept, TXREQ was set")                       \
+    X(PIN_ABAT, "no request under ABAT")                                \
+    X(PIN_ABAT_KEEPS, "no flag cleared under ABAT")                     \
+    X(PIN_ABAT_FLIGHT, "no request under ABAT in its own flight")       \
+    X(PIN_DISABLED_0, "no request, pin 0 not enabled")                  \
+    X(PIN_DISABLED_1, "no request, pin 1 not enabled")                  \
+    X(PIN_DISABLED_2, "no request, pin 2 not enabled")                  \
+    X(PIN_ENABLE_NEXT, "by its own enable, not the next pin's")         \
+    X(PIN_ENABLE_BEFORE, "by its own enable, not the pin's before")     \
+    X(PIN_OWN_LEVEL, "requested though another pin is low")             \
+    X(PIN_RISE, "no request by a rise")                                 \
+    X(PIN_REPEAT_LOW, "no request by a low that repeats")               \
+    X(PIN_REPEAT_HIGH, "no request by a high that repeats")             \
+    X(PIN_ENABLED_LOW, "no request by enabling a low pin")              \
+    X(PIN_MOVED_ENABLED, "level shown that moved while enabled")        \
+    X(PIN_WRITE_LEVELS, "WRITE with other levels, in Configuration")    \
+    X(PIN_WRITE_CLOSED, "WRITE of other enables, closed")               \
+    X(PIN_MODIFY_LEVELS, "BIT MODIFY of levels, in Configuration")      \
+    X(PIN_MODIFY_CLOSED, "BIT MODIFY of other enables, closed")         \
+    X(PIN_MODIFY_MASKED, "BIT MODIFY whose mask keeps an enable")       \
+    X(PIN_RESET_LOW_0, "pin 0 low through RESET, shown after")          \
+    X(PIN_RESET_LOW_1, "pin 1 low through RESET, shown after")          \
+    X(PIN_RESET_LOW_2, "pin 2 low through RESET, shown after")          \
+    X(PIN_RESET_HIGH, "pin high and enabled at RESET, shown after")     \
+    X(PIN_RESET_REPEAT, "low through RESET, enabled, low again")        \
+    X(PIN_RESET_DISABLED, "enabled before RESET, falls after it")       \
+    X(PIN_SENT, "bus idle sends what a pin requested")                  \
+    X(PIN_DELAYS, "a mode waits for what a pin requested")              \
+    X(PIN_REFUSED_3, "refused for pin 3 alone")                         \
+    X(PIN_REFUSED_ABOVE, "refused for a pin above 3 alone")             \
+    X(PIN_REFUSED_LEVEL_2, "refused for level 2 alone")                 \
+    X(PIN_REFUSED_LEVEL, "refused for a level above 2 alone")           \
+    X(PIN_REFUSED_FALL, "refused, would have requested")                \
+    X(PIN_LOAD_UNLISTED, "LOAD not listed: a fall locks it half way")        \
+    X(PIN_LOAD_UNLISTED_ALIKE, "LOAD not listed, no byte before the fall")   \
+    X(PIN_LOAD_UNLISTED_ABAT, "LOAD not listed for a fall under ABAT")       \
+    X(PIN_LOAD_OTHER, "LOAD listed, another enabled pin falls")         \
+    X(PIN_LOAD_DISABLED, "LOAD listed, its pin falls, not enabled")     \
+    X(PIN_LOAD_RISE, "LOAD listed, its enabled pin rises")              \
+    X(PIN_LOAD_REPEAT, "LOAD listed, its enabled pin repeats")          \
+    X(PIN_LOAD_REFUSED, "LOAD listed, a pin record refused inside")
 
 enum cover_point {
 #define COVER_ENUM(name, text) COVER_##name,
@@ -248,6 +306,32 @@ enum cover_class {
 extern const char *const cover_class_name[COVER_CLASSES];
 
 enum { COVER_SETS = 1 << MATCH_FILTERS };
+
+/* TXRTSCTRL by its enables and the levels of the pins, which it does not all show. */
+enum { COVER_PIN_STATES = 1 << REQUEST_PINS };
+
+/* What pin records did in the present session. */
+enum cover_pin_event {
+    COVER_PIN_UNLISTED,       /* enabled, it fell */
+    COVER_PIN_UNLISTED_ABAT,  /* the same under ABAT */
+    COVER_PIN_UNLISTED_LATE,  /* the same, TXREQ rose, and bytes of its buffer had changed before */
+    COVER_PIN_DISABLED,  /* not enabled, it fell */
+    COVER_PIN_ROSE,      /* enabled */
+    COVER_PIN_REPEATED,  /* enabled */
+    COVER_PIN_EVENTS
+};
+
+/* Pins and their buffers, bit n for TXnRTS and TXBn, from record to record. */
+struct cover_pins {
+    uint8_t requested;     /* TXREQ set by a fall, and not cleared since */
+    uint8_t moved_enabled; /* moved last while enabled */
+    uint8_t reset_low;     /* low at the last RESET, and not moved since */
+    uint8_t reset_high;    /* high and enabled at it, not moved and not enabled since */
+    uint8_t reset_enabled; /* enabled at it, and not since */
+    uint8_t changed;       /* buffers of which this session has changed a byte */
+    uint8_t in_session[COVER_PIN_EVENTS];
+    bool refused_in_session;
+};
 
 /* RESET by address, CANCTRL at 0Fh alone. The bits that a log can make other
  * than RESET does; bits of the counters are not told apart. */
@@ -278,6 +362,9 @@ struct cover {
     unsigned long set_exide[MATCH_FILTERS][2];
     unsigned long set_byte[MATCH_FILTERS][2][4];
     uint8_t set_before; /* of the last record */
+    unsigned long txrtsctrl[COVER_PIN_STATES][COVER_PIN_STATES]; /* read, by enables and levels */
+    unsigned long pin_spare[RECORD_BYTES]; /* pin records refused for this byte alone */
+    struct cover_pins pins;
     unsigned long resets;
     unsigned long reset_bit[COVER_ADDRESSES][8]; /* met other than RESET would make it */
     unsigned long reset_read[COVER_ADDRESSES];   /* such a byte read while still in hand */
@@ -302,6 +389,15 @@ void cover_match(struct cover *c, const struct model *before, const uint8_t *rec
 /* Any record: what its set depended on (cover_set.c). */
 void cover_set(struct cover *c, const struct model *before, const uint8_t *record,
                uint8_t refusal, uint8_t answer, uint8_t set);
+
+/* Any record, after cover_step: what it did to the request pins and by them
+ * (cover_pins.c). */
+void cover_pins(struct cover *c, const struct model *before, const uint8_t *record,
+                uint8_t refusal, const struct model *after);
+
+/* The present session so far: LOAD TX BUFFER up to data byte 7 at most, its buffer free at
+ * select low. */
+bool cover_loads(const struct cover *c);
 
 /* One step: chips before and after, what the record gave. */
 void cover_step(struct cover *c, const struct model *before, const uint8_t *record,

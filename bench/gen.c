@@ -153,6 +153,75 @@ static unsigned idle_chance(const struct model *m)
     return model_bus_off(m) ? 16 : 140;
 }
 
+/* ---- request pins ---- */
+
+static bool pin_is_enabled(const struct model *m, unsigned n)
+{
+    return m->reg[TXRTSCTRL] & B0RTSM << n;
+}
+
+/* A fall meets flags that it clears or leaves, or the flight of its own buffer. */
+static bool is_worth_a_fall(const struct model *m, unsigned n)
+{
+    uint8_t flags = m->reg[TXB0CTRL + 0x10 * n] & (ABTF | MLOA | TXERR);
+    return pin_is_enabled(m, n) && (flags || m->flight == n);
+}
+
+/* Drawn again if it is not enabled, and now and then if a fall would do no more than usual. */
+static unsigned some_pin(struct gen *g)
+{
+    unsigned n = below(g, REQUEST_PINS);
+    if (!pin_is_enabled(&g->chip, n) || (!is_worth_a_fall(&g->chip, n) && chance(g, 128)))
+        n = below(g, REQUEST_PINS);
+    return n;
+}
+
+/* Mostly the other level. */
+static void make_pin(struct gen *g, uint8_t *r, unsigned n)
+{
+    r[0] = KIND_REQUEST_PIN;
+    r[1] = (uint8_t)n;
+    r[2] = chance(g, 210) ? !g->chip.level[n] : g->chip.level[n];
+}
+
+/* LOAD TX BUFFER goes on: a fall on its own pin locks the rest of it out. */
+static bool is_loading(const struct gen *g)
+{
+    bool load = g->plan[0] >= SPI_LOAD_TX && g->plan[0] < SPI_LOAD_TX + 2 * REQUEST_PINS;
+    return g->chip.open == OPEN_WRITE && g->sent > 0 && load;
+}
+
+/* On the bus, and the firmware has taken its TXREQ back: a fall asks for it again. */
+static bool is_taken_back(const struct model *m)
+{
+    return m->flight != NO_FLIGHT && !(m->reg[TXB0CTRL + 0x10 * m->flight] & TXREQ);
+}
+
+/* More often where a fall must not request, where it holds a mode and inside a LOAD; else
+ * seldom in Loopback, where it sends buffers that have no new message. */
+static unsigned pin_chance(const struct gen *g)
+{
+    const struct model *m = &g->chip;
+    bool abat = m->reg[CANCTRL] & ABAT;
+    if (is_taken_back(m))
+        return abat ? 200 : 100;
+    if (abat || m->request != NO_REQUEST || is_loading(g) || model_bus_off(m))
+        return 2 * g->mix.pins;
+    return m->mode == MODE_LOOPBACK ? g->mix.pins / 3 : g->mix.pins;
+}
+
+/* Mostly that of the buffer which is loaded or taken back. */
+static void make_any_pin(struct gen *g, uint8_t *r)
+{
+    bool own = chance(g, 160);
+    if (own && is_loading(g))
+        make_pin(g, r, (g->plan[0] & 7u) / 2);
+    else if (own && is_taken_back(&g->chip))
+        make_pin(g, r, g->chip.flight);
+    else
+        make_pin(g, r, some_pin(g));
+}
+
 static void make_event(struct gen *g, uint8_t *r)
 {
     const struct model *m = &g->chip;
@@ -213,9 +282,29 @@ static void make_bad_frame(struct gen *g, uint8_t *r)
     }
 }
 
+/* One field out of range, or a byte without a name. */
+static void make_bad_pin(struct gen *g, uint8_t *r)
+{
+    make_pin(g, r, below(g, REQUEST_PINS));
+    switch (below(g, 4)) {
+    case 0:
+        r[1] = REQUEST_PINS;
+        break;
+    case 1:
+        r[2] = PIN_LEVEL_MAX + 1;
+        break;
+    case 2:
+        r[1 + below(g, 2)] = any_byte(g);
+        break;
+    default:
+        r[3 + below(g, 13)] = (uint8_t)(1u << below(g, 8));
+        break;
+    }
+}
+
 static void make_bad(struct gen *g, uint8_t *r)
 {
-    switch (below(g, 6)) {
+    switch (below(g, 7)) {
     case 0: /* select in the wrong state */
         r[0] = g->chip.selected ? KIND_SELECT_LOW : chance(g, 128) ? KIND_EXCHANGE
                                                                     : KIND_SELECT_HIGH;
@@ -233,6 +322,9 @@ static void make_bad(struct gen *g, uint8_t *r)
     case 4:
         r[0] = chance(g, 128) ? KIND_FRAME_ENDS : KIND_RECEIVE_ERROR;
         r[1] = (uint8_t)below(g, 6);
+        break;
+    case 5:
+        make_bad_pin(g, r);
         break;
     default: /* an event at the wrong time, or just a rare one */
         r[0] = (uint8_t)(KIND_FRAME + below(g, 5));
@@ -485,6 +577,10 @@ static void plan_in_flight(struct gen *g)
     unsigned n = g->chip.flight % 3;
     uint8_t ctrl = (uint8_t)(TXB0CTRL + 0x10 * n);
     uint8_t canctrl = g->chip.reg[CANCTRL];
+    if (g->mix.pins > 0 && is_taken_back(&g->chip) && chance(g, 80)) {
+        add_write(g, CANCTRL, canctrl | ABAT); /* then no fall asks for it again */
+        return;
+    }
     switch (below(g, 6)) {
     case 0:
     case 1:
@@ -590,6 +686,28 @@ static unsigned reset_weight(const struct model *m)
     return weight;
 }
 
+/* The enables, and a look at the levels; WRITE and BIT MODIFY outside Configuration too. */
+static void plan_pins(struct gen *g)
+{
+    static const uint8_t masks[] = {0x07, 0x07, 0x01, 0x02, 0x04, 0x38, 0xFF};
+    uint8_t more = chance(g, 80) ? 0x07 : 0x00;
+    uint8_t value = chance(g, 60) ? any_byte(g) : (uint8_t)(below(g, 8) | (any_byte(g) & more));
+    bool closed = g->chip.mode != MODE_CONFIGURATION;
+    switch (below(g, closed ? 6 : 4)) {
+    case 0:
+        add_write(g, TXRTSCTRL, value);
+        break;
+    case 1:
+        add_modify(g, TXRTSCTRL, PICK(g, masks), value);
+        break;
+    default:
+        add(g, SPI_READ);
+        add(g, TXRTSCTRL);
+        add_random(g, 1);
+        break;
+    }
+}
+
 static void plan_unknown(struct gen *g)
 {
     static const uint8_t codes[] = {0x00, 0x01, 0x04, 0x06, 0x46, 0x47, 0x88, 0x8F,
@@ -625,6 +743,7 @@ enum {
     PLAN_BUS_OFF,
     PLAN_WATCH,
     PLAN_LOOK,
+    PLAN_PINS,
     PLANS
 };
 
@@ -632,7 +751,7 @@ static void (*const planners[PLANS])(struct gen *) = {
     plan_read,   plan_write, plan_write_run, plan_modify, plan_canctrl,   plan_filters,
     plan_rxctrl, plan_flags, plan_load,      plan_rts,    plan_txctrl,    plan_read_rx,
     plan_status, plan_reset, plan_unknown,   plan_wild,   plan_in_flight, plan_bus_off,
-    plan_watch,  plan_look,
+    plan_watch,  plan_look,  plan_pins,
 };
 
 static const unsigned char weights[GEN_PROFILES][PLANS] = {
@@ -681,6 +800,8 @@ static void weigh_plans(const struct gen *g, unsigned weight[PLANS])
         weight[PLAN_RESET] += reset_weight(m);
     if (g->looks > 0)
         weight[PLAN_LOOK] = 150;
+    if (g->mix.pins > 0)
+        weight[PLAN_PINS] = m->mode != MODE_CONFIGURATION ? 6 : m->reg[TXRTSCTRL] ? 15 : 60;
 }
 
 static void plan_session(struct gen *g)
@@ -707,7 +828,7 @@ static void draw_mix(struct gen *g)
                          favoured[] = {MODE_NORMAL, MODE_NORMAL, MODE_NORMAL, MODE_LOOPBACK,
                                        MODE_LOOPBACK, MODE_LOOPBACK, MODE_SLEEP,
                                        MODE_LISTEN_ONLY, MODE_CONFIGURATION},
-                         mode_changes[] = {1, 6, 30};
+                         mode_changes[] = {1, 6, 30}, pins[] = {0, 5, 14, 30};
     struct gen_mix *mix = &g->mix;
     mix->event_outside = PICK(g, outside);
     mix->event_inside = PICK(g, inside);
@@ -717,6 +838,7 @@ static void draw_mix(struct gen *g)
     mix->failure = PICK(g, failure);
     mix->favoured = PICK(g, favoured);
     mix->mode_changes = PICK(g, mode_changes);
+    mix->pins = PICK(g, pins);
     if (mix->failure > 200 && chance(g, 160)) { /* long enough in Normal for bus-off */
         mix->event_outside = 240;
         mix->favoured = MODE_NORMAL;
@@ -726,8 +848,8 @@ static void draw_mix(struct gen *g)
 
 void gen_start(struct gen *g, enum gen_profile profile, uint64_t seed)
 {
-    static const struct gen_mix quiet = {12, 4, 2, 2, 2, 10, MODE_NORMAL, 1};
-    static const struct gen_mix busy = {235, 20, 1, 1, 1, 20, MODE_NORMAL, 1};
+    static const struct gen_mix quiet = {12, 4, 2, 2, 2, 10, MODE_NORMAL, 1, 0};
+    static const struct gen_mix busy = {235, 20, 1, 1, 1, 20, MODE_NORMAL, 1, 0};
     memset(g, 0, sizeof *g);
     g->state = seed;
     g->profile = profile;
@@ -801,6 +923,8 @@ void gen_record(struct gen *g, uint8_t record[RECORD_BYTES])
         draw_mix(g);
     if (chance(g, g->mix.bad))
         make_bad(g, record);
+    else if (g->mix.pins > 0 && chance(g, pin_chance(g)))
+        make_any_pin(g, record);
     else if (g->chip.selected)
         inside_session(g, record);
     else

@@ -29,6 +29,7 @@ struct gen_mix {
     uint8_t failure;       /* an own frame fails; a receive error comes */
     uint8_t favoured;      /* the mode that is mostly asked for */
     uint8_t mode_changes;  /* weight of mode changes among the sessions */
+    uint8_t pins;          /* a request pin rather than any other record */
 };
 
 struct gen {

@@ -39,6 +39,10 @@ static void check_sizes(void)
     expect("room for a line", 23, LINE);
     expect("bytes of a chip", 152, CHIP);
     expect("records of the longest log", 65535, MCP2515_MOST_RECORDS);
+    expect("version of a chip", 2, MCP2515_CHIP_VERSION);
+    expect("place of the pins", 143, MCP2515_PLACE_PINS);
+    expect("place of the open instruction", 146, MCP2515_PLACE_OPEN);
+    expect("place of the version", 151, MCP2515_PLACE_VERSION);
 }
 
 /* Three numbers with a dot between, as pkg-config has to sort them. */
@@ -61,6 +65,8 @@ static void check_chip(void)
     expect("a byte more", -MCP2515_REFUSED_NO_CHIP, mcp2515_hold(chip, CHIP + 1, 0x0F));
     chip[MCP2515_PLACE_VERSION]++;
     expect("another version", -MCP2515_REFUSED_NO_CHIP, mcp2515_hold(chip, CHIP, 0x0F));
+    chip[MCP2515_PLACE_VERSION] = 1;
+    expect("the version before", -MCP2515_REFUSED_NO_CHIP, mcp2515_hold(chip, CHIP, 0x0F));
 }
 
 static void one_record(uint8_t *chip, uint8_t kind, uint8_t byte1)
@@ -102,6 +108,40 @@ static void check_places(void)
     expect("select is high again", high, chip[MCP2515_PLACE_OPEN]);
     one_record(chip, 0, 0);
     expect("select is low", 1, chip[MCP2515_PLACE_OPEN] != high);
+}
+
+static void one_pin(uint8_t *chip, uint8_t n, uint8_t level)
+{
+    uint8_t record[RECORD] = {8, n, level}, answer[ANSWER];
+    expect("a step of a pin", ANSWER, mcp2515_step(chip, CHIP, record, RECORD, answer, ANSWER));
+    expect("the refusal of a pin", n < 3 && level < 2 ? 0 : MCP2515_REFUSED_FIELD, answer[0]);
+    expect("the answer to a pin", 0, answer[1]);
+}
+
+/* Each pin at its place: 0 is low, any other byte is high; TXRTSCTRL shows it. */
+static void check_pins(void)
+{
+    uint8_t chip[CHIP];
+    mcp2515_power_on(chip, CHIP);
+    expect("TXRTSCTRL after power-on", 0x38, mcp2515_hold(chip, CHIP, 0x0D));
+    for (uint8_t n = 0; n < 3; n++) {
+        uint8_t *level = &chip[MCP2515_PLACE_PINS + n];
+        expect("a pin that is high", 1, *level != 0);
+        one_pin(chip, n, 0);
+        expect("a pin that is low", 0, *level);
+        expect("TXRTSCTRL with this pin low", 0x38 ^ 0x08 << n, mcp2515_read(chip, CHIP, 0x0D));
+        *level = (uint8_t)(0x80 >> n);
+        expect("TXRTSCTRL with this pin high", 0x38, mcp2515_read(chip, CHIP, 0x0D));
+        one_pin(chip, n, 1);
+        expect("a pin that is high again", 1, *level != 0);
+        write_register(chip, 0x0D, (uint8_t)(1u << n));
+        one_pin(chip, n, 0);
+        expect("TXREQ by the pin", 0x08, mcp2515_hold(chip, CHIP, (uint8_t)(0x30 + 0x10 * n)));
+        write_register(chip, 0x0D, 0);
+        one_pin(chip, n, 1);
+    }
+    one_pin(chip, 3, 0);
+    one_pin(chip, 0, 2);
 }
 
 static void check_record_limits(void)
@@ -163,7 +203,7 @@ static void check_log_limits(void)
 static void check_entry(void)
 {
     static const uint8_t want[ENTRY] = {0, 0, 0, 1, MCP2515_REFUSED_FIELD, 0, 0, 3, 0, 0};
-    uint8_t first[RECORD + 1] = {8}, second[RECORD + 1] = {4}, entries[ENTRY];
+    uint8_t first[RECORD + 1] = {9}, second[RECORD + 1] = {4}, entries[ENTRY];
     expect("two logs of a record", 1,
            mcp2515_compare_logs(first, RECORD, second, RECORD, entries, ENTRY));
     expect("the entry", 0, memcmp(entries, want, ENTRY));
@@ -241,6 +281,7 @@ int main(void)
     check_version();
     check_chip();
     check_places();
+    check_pins();
     check_record_limits();
     check_set();
     check_log_limits();

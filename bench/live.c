@@ -1,9 +1,9 @@
 /*
  * The live calls against the second model: random logs record by record, with
  * the set and without, and INT after each, by run_from in pieces, as text by
- * render; random bytes as a chip, and as filters and masks; every refusal of
- * every call. The first difference ends the run with status 1. What was met is
- * counted, and none of it may be missing.
+ * render; random bytes as a chip, as filters and masks, and around the request
+ * pins; every refusal of every call. The first difference ends the run with
+ * status 1. What was met is counted, and none of it may be missing.
  *
  *   live [records [seed]]
  */
@@ -17,6 +17,7 @@
 #include "chip_bytes.h"
 #include "gen.h"
 #include "match.h"
+#include "pins_met.h"
 #include "registers.h"
 #include "sets_met.h"
 
@@ -70,6 +71,10 @@ static unsigned long long int_lines[2], modes[MODES], opens[OPEN_SPENT + 1];
 static unsigned long long waits, flights, bus_offs, hidden, addresses, wrong_versions,
     wrong_lengths, random_chips, pieces, parts[REFUSALS];
 static unsigned long long sets_met[2][SETS_MET]; /* [1]: of random chips */
+static unsigned long long pins_met[2][PINS_MET]; /* [1]: of random chips */
+/* Of random chips: a pin record lets a mode request go, or its TXREQ holds one that was free;
+ * it requests by a fall from a level that is neither 0 nor 1. */
+static unsigned long long carried_out, held_back, other_levels;
 static unsigned long long lines[LINES];
 static unsigned long long junk_decides[DECIDES][3]; /* SIDL bits 4, 3, 2 of mask and filter */
 static unsigned long long srr_decides[DECIDES];     /* SIDL bit 4 of the mask, not of the filter */
@@ -143,6 +148,19 @@ static void demand_sets(void)
     }
 }
 
+static void demand_pins(void)
+{
+    for (unsigned i = 0; i < 2 * PINS_MET; i++) {
+        unsigned random = i / PINS_MET, sort = i % PINS_MET;
+        char text[96];
+        snprintf(text, sizeof text, "%s%s", random ? "random chip: " : "", pin_met_name[sort]);
+        demand(text, pins_met[random][sort]);
+    }
+    demand("random chip: pin record lets a mode request go", carried_out);
+    demand("random chip: pin requests, and a mode waits for it", held_back);
+    demand("random chip: pin requests, its level was above 1", other_levels);
+}
+
 static void demand_junk(void)
 {
     static const char *const decided[DECIDES] = {"the set", "the answer"};
@@ -182,6 +200,7 @@ static void demand_all(void)
     printf("met:\n");
     demand_results();
     demand_sets();
+    demand_pins();
     demand_numbers("record of a reached chip, refusal", refusals[0], REFUSED_STATE + 1);
     demand_numbers("record of a random chip, refusal", refusals[1], REFUSED_STATE + 1);
     demand("RESET of a reached chip", resets[0]);
@@ -318,6 +337,23 @@ static void step_by(const struct step_call *step, struct pair *p, const uint8_t 
         live_stop("a step wrote beside its answer");
 }
 
+/* A pin record and what it did, on random chips beyond what a log reaches. */
+static void count_pins(const struct pair *p, const struct model *met, const uint8_t *before,
+                       const uint8_t *record, uint8_t refusal)
+{
+    unsigned long long *counts = pins_met[p->random], requested = counts[PIN_REQUESTS];
+    count_pin(counts, met, record, refusal);
+    if (!p->random || record[0] != KIND_REQUEST_PIN || refusal != REFUSED_NOT)
+        return;
+    bool requests = counts[PIN_REQUESTS] > requested;
+    bool sends = met->mode == MODE_NORMAL || met->mode == MODE_LOOPBACK;
+    bool holds = (met->reg[TXB0CTRL] | met->reg[TXB1CTRL] | met->reg[TXB2CTRL]) & TXREQ;
+    bool is_free = met->request != NO_REQUEST && !(sends && (holds || met->flight != NO_FLIGHT));
+    carried_out += is_free && p->m.request == NO_REQUEST;
+    held_back += is_free && requests && p->m.request != NO_REQUEST;
+    other_levels += requests && before[MCP2515_PLACE_PINS + record[1]] > 1;
+}
+
 /* By both calls from the same chip: they leave the same bytes. The set is told a third time
  * by match.c. */
 static void step_pair(struct pair *p, const uint8_t *record)
@@ -340,6 +376,7 @@ static void step_pair(struct pair *p, const uint8_t *record)
     check_bytes(p, before, want[0] != REFUSED_NOT);
     check_int(p);
     count_set(sets_met[p->random], &p->m, met.mode == MODE_LOOPBACK, record, want);
+    count_pins(p, &met, before, record, want[0]);
     refusals[p->random][want[0]]++;
     resets[p->random] += resets_it && want[0] == REFUSED_NOT;
 }
@@ -543,7 +580,13 @@ static void random_chip(struct pair *p, const uint8_t *log, size_t records)
     for (unsigned n = below(12); n > 0; n--)
         p->chip[below(CHIP)] = (uint8_t)below(256);
     for (unsigned n = below(12); n > 0; n--)
-        p->chip[128 + below(18)] = below(2) ? (uint8_t)below(256) : near[below(sizeof near)];
+        p->chip[128 + below(SPARE_FROM - 128)] =
+            below(2) ? (uint8_t)below(256) : near[below(sizeof near)];
+    for (unsigned n = 0; n < REQUEST_PINS; n++)
+        if (below(3) == 0)
+            p->chip[MCP2515_PLACE_PINS + n] = (uint8_t)(below(2) ? below(256) : 0);
+    if (below(2))
+        p->chip[TXRTSCTRL] = (uint8_t)below(256);
     p->chip[MCP2515_PLACE_VERSION] = MCP2515_CHIP_VERSION;
     p->random = true;
     chip_decode(p->chip, &p->m);
@@ -732,6 +775,42 @@ static void junk_in_filters(void)
     }
 }
 
+/* ---- pin records on any chip ---- */
+
+/* Any mode, request, flight, enables and levels, also a request that is free to go. Half of the
+ * chips have no TXREQ, so that the pin's is the first. */
+static void any_pins(struct pair *p)
+{
+    enum { CANCTRL_AT = 128, TXB0CTRL_AT = 132, MODE_AT = 140 };
+    uint8_t keeps = below(2) ? 0xFF : (uint8_t)~TXREQ;
+    for (unsigned n = 0; n < REQUEST_PINS; n++) {
+        p->chip[TXB0CTRL_AT + n] = (uint8_t)below(256) & keeps;
+        p->chip[MCP2515_PLACE_PINS + n] = (uint8_t)(below(3) ? below(256) : 0);
+    }
+    p->chip[TXRTSCTRL] = (uint8_t)below(256);
+    p->chip[CANCTRL_AT] = (uint8_t)below(256) & (below(3) ? (uint8_t)~ABAT : 0xFF);
+    p->chip[MODE_AT] = (uint8_t)below(MODES);
+    p->chip[MCP2515_PLACE_FLIGHT] = (uint8_t)(below(2) ? NO_FLIGHT : below(NO_FLIGHT));
+    p->chip[MCP2515_PLACE_MODE_REQUESTED] = (uint8_t)below(MODES + 1);
+    chip_decode(p->chip, &p->m);
+}
+
+static void pins_of_any_chip(void)
+{
+    struct pair p;
+    start_pair(&p);
+    p.random = true;
+    for (unsigned i = 0; i < 20; i++) {
+        uint8_t record[RECORD_BYTES] = {KIND_REQUEST_PIN, (uint8_t)below(REQUEST_PINS),
+                                        (uint8_t)below(2)};
+        any_pins(&p);
+        if (below(8) == 0)
+            record[1 + below(RECORD_BYTES - 1)] = (uint8_t)below(8);
+        step_pair(&p, record);
+        check_addresses(&p);
+    }
+}
+
 /* ---- two threads at once ---- */
 
 struct worker {
@@ -823,6 +902,7 @@ int main(int argc, char **argv)
             random_start(log, text);
         for (unsigned i = 0; i < 3; i++)
             junk_in_filters();
+        pins_of_any_chip();
     }
     check_threads(log);
     demand_all();

@@ -10,7 +10,7 @@
 #define COUNT(list) (sizeof(list) / sizeof *(list))
 
 static const size_t chip_lengths[] = {0, 1, 151, 152, 153, 304};
-static const uint8_t versions[] = {0, 1, 2, 129, 255};
+static const uint8_t versions[] = {0, 1, 2, 3, 130, 255}; /* 1 had no request pins */
 
 /* A power-on chip with this version and this length, cut or with a tail. */
 static uint8_t *lend_chip(size_t length, uint8_t version)
@@ -161,6 +161,8 @@ static void edge_questions(size_t chip_len, uint8_t version)
     fence_lend(&in_fence, 0);
     live_result(CALL_HOLD, good ? 0x87 : -MCP2515_REFUSED_NO_CHIP,
                 mcp2515_hold(chip, chip_len, 0x0F));
+    live_result(CALL_HOLD, good ? 0x38 : -MCP2515_REFUSED_NO_CHIP,
+                mcp2515_hold(chip, chip_len, 0x0D));
     live_result(CALL_READ, good ? 0x80 : -MCP2515_REFUSED_NO_CHIP,
                 mcp2515_read(chip, chip_len, 0xEE));
     live_result(CALL_INT_IS_LOW, good ? 0 : -MCP2515_REFUSED_NO_CHIP,
@@ -228,6 +230,46 @@ static void edge_part_refusal(void)
     live_result(CALL_PART_REFUSAL, 8, mcp2515_part_refusal(0, 65536 * 16));
 }
 
+/* A chip as version 1 saved it after power-on: no levels, and the select line where the
+ * first of them is now. Read as it is, its pins would be low. */
+static uint8_t *lend_older_chip(void)
+{
+    enum { CANCTRL_AT = 128, MODE_AT = 140, OLDER_VERSION = 1 };
+    uint8_t *chip = fence_lend(&chip_fence, MCP2515_CHIP_SIZE);
+    memset(chip, 0, MCP2515_CHIP_SIZE);
+    chip[CANCTRL_AT] = 0x87;
+    chip[MODE_AT] = MODE_CONFIGURATION;
+    chip[MCP2515_PLACE_FLIGHT] = NO_FLIGHT;
+    chip[MCP2515_PLACE_MODE_REQUESTED] = NO_REQUEST;
+    chip[MCP2515_PLACE_VERSION] = OLDER_VERSION;
+    return chip;
+}
+
+/* Refused by every call, and left as it is; with the version of today the bytes are a chip. */
+static void edge_older_chip(void)
+{
+    enum { CHIP = MCP2515_CHIP_SIZE, NO_CHIP = -MCP2515_REFUSED_NO_CHIP };
+    uint8_t *chip = lend_older_chip(), *record = fence_lend(&in_fence, MCP2515_RECORD_SIZE);
+    uint8_t *out = fence_lend(&out_fence, 2 * MCP2515_LINE_SIZE);
+    struct edge e = watch(chip, CHIP, MCP2515_RECORD_SIZE, out, 2 * MCP2515_LINE_SIZE);
+    memset(record, 0, MCP2515_RECORD_SIZE);
+    for (unsigned n = 0; n < STEP_CALLS; n++)
+        live_result(step_calls[n].call, NO_CHIP,
+                    step_calls[n].run(chip, CHIP, record, MCP2515_RECORD_SIZE, out,
+                                      step_calls[n].answer_size));
+    live_result(CALL_RUN_FROM, NO_CHIP,
+                mcp2515_run_from(chip, CHIP, record, MCP2515_RECORD_SIZE, out, 2));
+    live_result(CALL_HOLD, NO_CHIP, mcp2515_hold(chip, CHIP, 0x0D));
+    live_result(CALL_READ, NO_CHIP, mcp2515_read(chip, CHIP, 0x0D));
+    live_result(CALL_INT_IS_LOW, NO_CHIP, mcp2515_int_is_low(chip, CHIP));
+    live_result(CALL_RENDER, NO_CHIP,
+                mcp2515_render(chip, CHIP, 0, record, MCP2515_RECORD_SIZE, out,
+                               2 * MCP2515_LINE_SIZE));
+    check_untouched(&e, -1, 0);
+    chip[MCP2515_PLACE_VERSION] = MCP2515_CHIP_VERSION;
+    live_result(CALL_HOLD, 0x00, mcp2515_hold(chip, CHIP, 0x0D));
+}
+
 /* NULL goes with length 0. */
 static void edge_null(void)
 {
@@ -263,5 +305,6 @@ void check_edges(void)
             edge_render(chip_lengths[i], versions[j]);
         }
     edge_part_refusal();
+    edge_older_chip();
     edge_null();
 }

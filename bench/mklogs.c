@@ -90,6 +90,8 @@ static void write_set_records(struct script *s)
     sc_mode(s, MODE_SLEEP);
     sc_std(s, 0x001, RX_WOKE);
     sc_std(s, 0x001, RX_LOST);
+    sc_pin(s, 1, 0);
+    sc_refused(s, REFUSED_FIELD, KIND_REQUEST_PIN, KIND_FRAME);
     sc_refused(s, REFUSED_FIELD, KINDS, KIND_FRAME);
     sc_raw(s, damaged_exchange, REFUSED_FIELD, 0);
 }
@@ -134,12 +136,14 @@ int main(int argc, char **argv)
 
     write_five();
     write_sets();
-    size_t at_set = case_count() - set_cases.count; /* in one log they would be too long */
+    size_t at_pins = case_count() - pins_cases.count; /* in one log they would be too long */
+    size_t at_set = at_pins - set_cases.count;
     size_t at_match = at_set - match_cases.count;
     write_cases("marked.log", 0, marked_cases.count, seed, 1000);
     write_cases("cases.log", 0, at_match, seed + 1, 2000);
     write_cases("match.log", at_match, at_set, seed + 4, 2000);
-    write_cases("set_cases.log", at_set, case_count(), seed + 5, 2000);
+    write_cases("set_cases.log", at_set, at_pins, seed + 5, 2000);
+    write_cases("pins.log", at_pins, case_count(), seed + 6, 2000);
     gen_log(GEN_MIXED, seed + 2, log, MOST + 2);
     write_lengths(log);
     gen_noise(seed + 3, log, BYTES);

@@ -118,6 +118,8 @@ void model_power_on(struct model *m)
     m->mode = MODE_CONFIGURATION;
     m->request = NO_REQUEST;
     m->flight = NO_FLIGHT;
+    for (unsigned n = 0; n < REQUEST_PINS; n++)
+        m->level[n] = 1;
 }
 
 /* ---- reading ---- */
@@ -135,6 +137,24 @@ static uint8_t canstat(const struct model *m)
     return stat; /* MERRF alone has no code */
 }
 
+static bool pin_is_enabled(const struct model *m, unsigned n)
+{
+    return m->reg[TXRTSCTRL] & B0RTSM << n;
+}
+
+/* A pin that is not enabled shows its level, an enabled one 0. */
+static uint8_t txrtsctrl(const struct model *m)
+{
+    uint8_t held = m->reg[TXRTSCTRL];
+    for (unsigned n = 0; n < REQUEST_PINS; n++) {
+        uint8_t shown = (uint8_t)(B0RTS << n);
+        held &= (uint8_t)~shown;
+        if (!pin_is_enabled(m, n) && m->level[n])
+            held |= shown;
+    }
+    return held;
+}
+
 uint8_t model_holds(const struct model *m, uint8_t address)
 {
     address &= 0x7F;
@@ -145,6 +165,8 @@ uint8_t model_holds(const struct model *m, uint8_t address)
         return m->reg[CANCTRL];
     }
     switch (address) {
+    case TXRTSCTRL:
+        return txrtsctrl(m);
     case TEC:
         return (uint8_t)(m->tec < 255 ? m->tec : 255);
     case REC:
@@ -372,10 +394,12 @@ static bool outlives_reset(unsigned address)
     return address >= TXB0CTRL && low >= SIDH && low <= D7;
 }
 
+/* The pins are driven from outside: their levels outlive it too. */
 static void spi_reset(struct model *m)
 {
     const struct model met = *m;
     model_power_on(m);
+    memcpy(m->level, met.level, sizeof m->level);
     for (unsigned a = 0; a < sizeof m->reg; a++)
         if (outlives_reset(a))
             m->reg[a] = met.reg[a];
@@ -711,9 +735,18 @@ static void receive_error(struct model *m, uint8_t large)
     raise_counter(m, &m->rec, large ? 8 : 1, REC_STOP);
 }
 
+/* A fall requests as RTS does; a level that repeats and a rise are no more than noted. */
+static void request_pin(struct model *m, unsigned n, uint8_t level)
+{
+    bool falls = m->level[n] && !level;
+    m->level[n] = level;
+    if (falls && pin_is_enabled(m, n))
+        set_txreq(m, tx_ctrl(m, n));
+}
+
 /* ---- records ---- */
 
-/* Bytes from (1 or 2) to 15 are 0; two overlapping words cover them. */
+/* Bytes from (1 to 3) to 15 are 0; two overlapping words cover them. */
 static bool rest_is_zero(const uint8_t *r, size_t from)
 {
     uint64_t front, back;
@@ -749,6 +782,8 @@ static bool fields_are_sound(const uint8_t *r)
         return r[1] <= END_ERROR && rest_is_zero(r, 2);
     case KIND_RECEIVE_ERROR:
         return r[1] <= 1 && rest_is_zero(r, 2);
+    case KIND_REQUEST_PIN:
+        return r[1] < REQUEST_PINS && r[2] <= PIN_LEVEL_MAX && rest_is_zero(r, 3);
     }
     return false;
 }
@@ -772,6 +807,8 @@ static uint8_t refuse(const struct model *m, const uint8_t *r)
         if (!in_flight)
             return REFUSED_NO_FLIGHT;
         return m->mode == MODE_LOOPBACK && r[1] != END_SENT ? REFUSED_STATE : REFUSED_NOT;
+    case KIND_REQUEST_PIN:
+        return REFUSED_NOT; /* it may come at any time */
     }
     return model_bus_off(m) ? REFUSED_NOT : REFUSED_STATE; /* KIND_RECOVERY */
 }
@@ -809,6 +846,9 @@ void model_step_set(struct model *m, const uint8_t record[RECORD_BYTES], uint8_t
         break;
     case KIND_RECOVERY:
         clear_counters(m);
+        break;
+    case KIND_REQUEST_PIN:
+        request_pin(m, record[1], record[2]);
         break;
     }
     carry_out_request(m);

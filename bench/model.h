@@ -22,6 +22,7 @@ enum {
     KIND_FRAME_ENDS,
     KIND_RECEIVE_ERROR,
     KIND_RECOVERY,
+    KIND_REQUEST_PIN,
     KINDS
 };
 
@@ -33,6 +34,9 @@ enum { LENGTH_CODE_MAX = 15, DATA_BYTES_MAX = 8 };
 
 /* Byte 1 of an own-frame-ends record. */
 enum { END_SENT, END_LOST, END_ERROR };
+
+/* A request-pin record: byte 1 is n of TXnRTS, byte 2 its level, 1 for high. */
+enum { REQUEST_PINS = 3, PIN_LEVEL_MAX = 1 };
 
 /* Answers of a frame record; Loopback delivery gives the first four. */
 enum { RX_UNMATCHED, RX_IN_RXB0, RX_IN_RXB1, RX_LOST, RX_NOT_LISTENING, RX_WOKE };
@@ -82,8 +86,8 @@ enum open_instruction {
 };
 
 struct model {
-    uint8_t reg[128]; /* stored bytes; TEC, REC, CANSTAT and EFLG 5..0 are computed,
-                         CANCTRL is kept at 0Fh only */
+    uint8_t reg[128]; /* stored bytes; TEC, REC, CANSTAT, EFLG 5..0 and TXRTSCTRL 5..3
+                         are computed, CANCTRL is kept at 0Fh only */
     uint16_t tec;
     uint16_t rec;
     uint8_t mode;
@@ -94,7 +98,11 @@ struct model {
     uint8_t pointer; /* address of the next byte of READ, WRITE or BIT MODIFY */
     uint8_t mask;    /* BIT MODIFY's mask, once given */
     uint8_t clears;  /* RXnIF that select high clears, for READ RX BUFFER */
+    uint8_t level[REQUEST_PINS]; /* of TX0RTS to TX2RTS, 1 for high */
+    uint8_t unused;              /* 0; chips are compared as bytes, and padding has none */
 };
+
+_Static_assert(sizeof(struct model) == 128 + 2 * sizeof(uint16_t) + 12, "no padding");
 
 /* The data bytes that a length code stands for; 9 to 15 mean eight, as 8 does. */
 unsigned model_data_bytes(uint8_t code);

@@ -12,8 +12,9 @@
 const char *const pair_sort_name[PAIR_SORTS] = {
     "the same bytes twice", "a log and its own end", "equal copies",
     "one byte changed",     "one byte, no answer",   "one byte of a filter",
-    "records inserted",     "records removed",       "one cut short",
-    "unrelated",            "alike, then parted",    "damaged here and there"};
+    "one request pin",      "records inserted",      "records removed",
+    "one cut short",        "unrelated",             "alike, then parted",
+    "damaged here and there"};
 
 static unsigned below(uint64_t *dice, size_t n)
 {
@@ -110,22 +111,50 @@ static bool sent_for_nothing(const struct model *m, const uint8_t *record)
                                           m->open == OPEN_RX_STATUS || m->open == OPEN_SPENT);
 }
 
-/* The last such exchange up to a place, or else the first after it. */
-static size_t change_silent(const uint8_t *first, uint8_t *second, size_t records, uint64_t *dice)
+static bool is_pin(const struct model *m, const uint8_t *record)
+{
+    (void)m;
+    return record[0] == KIND_REQUEST_PIN;
+}
+
+/* The last such record that is accepted up to a place, or else the first after it; the
+ * number of records if there is none. */
+static size_t find_record(const uint8_t *log, size_t records, uint64_t *dice,
+                          bool (*wanted)(const struct model *, const uint8_t *))
 {
     struct model m;
     size_t place = some_place(dice, records), found = records;
     model_power_on(&m);
     for (size_t i = 0; i < records && (i <= place || found == records); i++) {
         uint8_t refusal, answer;
-        const uint8_t *record = first + RECORD_BYTES * i;
-        bool silent = sent_for_nothing(&m, record);
+        const uint8_t *record = log + RECORD_BYTES * i;
+        bool is_wanted = wanted(&m, record);
         model_step(&m, record, &refusal, &answer);
-        if (silent && refusal == REFUSED_NOT)
+        if (is_wanted && refusal == REFUSED_NOT)
             found = i;
     }
+    return found;
+}
+
+static size_t change_silent(const uint8_t *first, uint8_t *second, size_t records, uint64_t *dice)
+{
+    size_t found = find_record(first, records, dice, sent_for_nothing);
     if (found < records)
         second[RECORD_BYTES * found + 1] ^= (uint8_t)(1 + below(dice, 255));
+    return records;
+}
+
+/* Still a record that is accepted. */
+static size_t change_pin(const uint8_t *first, uint8_t *second, size_t records, uint64_t *dice)
+{
+    size_t found = find_record(first, records, dice, is_pin);
+    uint8_t *record = second + RECORD_BYTES * found;
+    if (found == records)
+        return records;
+    if (below(dice, 2))
+        record[2] ^= 1;
+    else
+        record[1] = (uint8_t)((record[1] + 1 + below(dice, 2)) % REQUEST_PINS);
     return records;
 }
 
@@ -182,8 +211,8 @@ static size_t damage(const uint8_t *first, uint8_t *second, size_t records, uint
 
 static change_copy *const changes[PAIR_SORTS] = {
     [PAIR_EQUAL] = keep,        [PAIR_ONE_BYTE] = change_byte, [PAIR_SILENT] = change_silent,
-    [PAIR_INSERTED] = insert,   [PAIR_REMOVED] = drop,         [PAIR_CUT] = cut,
-    [PAIR_UNRELATED] = replace, [PAIR_DAMAGED] = damage,
+    [PAIR_PIN] = change_pin,    [PAIR_INSERTED] = insert,      [PAIR_REMOVED] = drop,
+    [PAIR_CUT] = cut,           [PAIR_UNRELATED] = replace,    [PAIR_DAMAGED] = damage,
 };
 
 /* ---- pairs ---- */

@@ -78,6 +78,9 @@ static unsigned long long in_first_record, in_last_record, alone, record_alone, 
     all_differ, above_255, above_32767, longest, swapped, with_itself, cut_alike, null_logs;
 /* Entries with two sets, by what the record is; [1]: nothing else differs. */
 static unsigned long long sets_heard[2], sets_in_loopback[2], short_by_set_alone;
+/* Entries of two accepted pin records; pairs where one of these is all that the logs differ in,
+ * and pairs of these where later records answer otherwise. */
+static unsigned long long pin_entries, pins_apart, pins_tell;
 
 static void demand(const char *what, unsigned long long count, unsigned least)
 {
@@ -137,6 +140,9 @@ static void demand_entries(void)
     demand("entry: nothing but two sets of a frame heard", sets_heard[1], 1000);
     demand("entry: two sets of an own frame in Loopback", sets_in_loopback[0], 300);
     demand("entry: nothing but two sets of such a frame", sets_in_loopback[1], 300);
+    demand("entry: two different pin records, both accepted", pin_entries, 100);
+    demand("logs that differ in one pin record", pins_apart, 100);
+    demand("the same, and later answers differ", pins_tell, 100);
     demand("entry: number above 255", above_255, 1000);
     demand("entry: number above 32,767", above_32767, 1000);
     demand("no entry", equal_pairs, 100);
@@ -215,6 +221,25 @@ static size_t count_set_alone(const struct log_pair *p, size_t count)
     return set_alone;
 }
 
+static bool is_pin_entry(const struct log_pair *p, const uint8_t *entry)
+{
+    size_t at = RECORD_BYTES * (number_of(entry) - 1);
+    return p->first.bytes[at] == KIND_REQUEST_PIN && p->second.bytes[at] == KIND_REQUEST_PIN &&
+           differences_of(p, entry) == DIFFERS_RECORD && entry[4] == REFUSED_NOT;
+}
+
+/* The records themselves differ at the first entry, two pins, and nowhere else. */
+static void count_pins(const struct log_pair *p, size_t count)
+{
+    if (count == 0 || p->first.length != p->second.length || !is_pin_entry(p, model_entries))
+        return;
+    for (size_t i = 1; i < count; i++)
+        if (differences_of(p, model_entries + ENTRY_BYTES * i) & DIFFERS_RECORD)
+            return;
+    pins_apart++;
+    pins_tell += count > 1;
+}
+
 static void count_entry(const struct log_pair *p, const uint8_t *entry)
 {
     size_t number = number_of(entry), at = RECORD_BYTES * (number - 1);
@@ -228,6 +253,7 @@ static void count_entry(const struct log_pair *p, const uint8_t *entry)
         met[0]++;
         met[1] += differs == DIFFERS_SET;
     }
+    pin_entries += is_pin_entry(p, entry);
     above_255 += number > 255;
     above_32767 += number > 32767;
 }
@@ -264,6 +290,7 @@ static void count_accepted(const struct log_pair *p, size_t count, struct log_pa
     size_t records = records_of_both(p->first, p->second);
     for (size_t i = 0; i < count; i++)
         count_entry(p, model_entries + ENTRY_BYTES * i);
+    count_pins(p, count);
     count_places(records, count > 0 ? number_of(model_entries) : 0);
     equal_pairs += count == 0 && records > 0;
     alone += count == 1;

@@ -36,6 +36,9 @@ enum { SIDH = 1, SIDL = 2, EID8 = 3, EID0 = 4, DLC = 5, D0 = 6, D7 = 13 };
 /* Bytes of a filter or a mask, counted from its first. */
 enum { RXF_SIDH = 0, RXF_SIDL = 1, RXF_EID8 = 2, RXF_EID0 = 3 };
 
+/* TXRTSCTRL: the pin's level, and its enable; those of pin n are n places higher. */
+enum { B0RTS = 0x08, B0RTSM = 0x01 };
+
 /* TXBnCTRL */
 enum { ABTF = 0x40, MLOA = 0x20, TXERR = 0x10, TXREQ = 0x08, TXP = 0x03 };
 

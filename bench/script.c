@@ -114,6 +114,12 @@ void sc_recovery(struct script *s)
     accepted(s, KIND_RECOVERY, 0, 0);
 }
 
+void sc_pin(struct script *s, uint8_t n, uint8_t level)
+{
+    uint8_t record[RECORD_BYTES] = {KIND_REQUEST_PIN, n, level};
+    sc_raw(s, record, REFUSED_NOT, 0);
+}
+
 void sc_write(struct script *s, uint8_t address, uint8_t value)
 {
     sc_low(s);

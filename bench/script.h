@@ -48,6 +48,7 @@ void sc_idle(struct script *s, uint8_t answer);
 void sc_end(struct script *s, uint8_t outcome, uint8_t answer);
 void sc_rx_error(struct script *s, uint8_t large);
 void sc_recovery(struct script *s);
+void sc_pin(struct script *s, uint8_t n, uint8_t level); /* TXnRTS */
 
 /* Says the set of the record before. */
 void sc_set(struct script *s, uint8_t set);

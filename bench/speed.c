@@ -152,15 +152,32 @@ static bool agrees(unsigned way, const struct pool *p, size_t i)
     return memcmp(answers_of_call, answers_of_model, 2 * p->records) == 0;
 }
 
+/* The archive before follows the rules of its day: what it answers otherwise is told. */
+static void tell_before(const char *name, const struct pool *p)
+{
+    size_t otherwise = 0;
+    for (size_t i = 0; i < p->logs; i++) {
+        run_model(p, i);
+        run_before(p, i);
+        for (size_t at = 0; at < p->records; at++)
+            otherwise += memcmp(answers_of_call + 2 * at, answers_of_model + 2 * at, 2) != 0;
+    }
+    if (otherwise > 0)
+        fprintf(stderr, "%s: the archive before answers %zu of %zu records otherwise\n", name,
+                otherwise, p->logs * p->records);
+}
+
 static void check_pool(const char *name, const struct pool *p)
 {
     for (size_t i = 0; i < p->logs; i++)
         for (unsigned way = 0; way < WAYS; way++) {
-            if (way == MODEL || !is_there(way) || agrees(way, p, i))
+            if (way == MODEL || way == BEFORE || agrees(way, p, i))
                 continue;
             fprintf(stderr, "%s: %s and the model disagree\n", name, ways[way].name);
             exit(1);
         }
+    if (is_there(BEFORE))
+        tell_before(name, p);
 }
 
 static void run_pool(unsigned way, const struct pool *p, unsigned passes)
@@ -360,6 +377,7 @@ static bool time_all_pairs(void)
 static const struct sort by_record[] = {
     {"quiet", quiet_log, false},
     {"busy", busy_log, true},
+    {"pins", pins_log, false},
     {"random", random_log, false},
 };
 

@@ -117,6 +117,28 @@ static size_t frames_log(uint64_t seed, uint8_t *log, size_t records, unsigned s
     return w.frames;
 }
 
+static void put_pin(struct writer *w, unsigned n, uint8_t level)
+{
+    uint8_t record[RECORD_BYTES] = {KIND_REQUEST_PIN, (uint8_t)n, level};
+    put(w, record);
+}
+
+size_t pins_log(uint64_t seed, uint8_t *log, size_t records)
+{
+    struct writer w = {.dice = seed, .log = log, .records = records};
+    write_byte(&w, TXRTSCTRL, 0x07);
+    write_byte(&w, CANCTRL, MODE_NORMAL << 5 | 7);
+    while (w.written < records) {
+        unsigned n = below(&w, REQUEST_PINS);
+        put_pin(&w, n, 0);
+        put_kind(&w, KIND_BUS_IDLE, 0);
+        put_kind(&w, KIND_FRAME_ENDS, END_SENT);
+        put_pin(&w, n, 0); /* repeats */
+        put_pin(&w, n, 1);
+    }
+    return records;
+}
+
 size_t late_log(uint64_t seed, uint8_t *log, size_t records)
 {
     return frames_log(seed, log, records, NO_FILTER);

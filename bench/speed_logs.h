@@ -1,6 +1,6 @@
 /*
  * Logs that are mostly frames, which each filter that is asked compares to the
- * last bit.
+ * last bit; and one of request pins.
  */
 #ifndef BENCH_SPEED_LOGS_H
 #define BENCH_SPEED_LOGS_H
@@ -28,5 +28,11 @@ size_t last_log(uint64_t seed, uint8_t *log, size_t records);
  * compared for the set alone. RX0IF is cleared now and then.
  */
 size_t first_log(uint64_t seed, uint8_t *log, size_t records);
+
+/*
+ * Hardly anything but request pins: each fall of an enabled pin requests its
+ * buffer, which is sent at once. Returns the number of records.
+ */
+size_t pins_log(uint64_t seed, uint8_t *log, size_t records);
 
 #endif

@@ -221,6 +221,9 @@ static const char *state_difference(const struct model *a, const struct model *b
     if (a->open != b->open || a->pointer != b->pointer || a->mask != b->mask ||
         a->clears != b->clears)
         return "open instruction";
+    for (unsigned n = 0; n < REQUEST_PINS; n++)
+        if (a->level[n] != b->level[n])
+            return "level of a request pin";
     return NULL;
 }
 
@@ -233,6 +236,15 @@ static struct model step(struct model m, uint8_t kind, uint8_t byte1, uint8_t wa
     model_step(&m, record, &refusal, &answer);
     EXPECT("refusal", want_refusal, refusal);
     EXPECT("answer", want_answer, answer);
+    return m;
+}
+
+static struct model step_pin(struct model m, uint8_t n, uint8_t level)
+{
+    uint8_t record[RECORD_BYTES] = {KIND_REQUEST_PIN, n, level}, refusal, answer;
+    model_step(&m, record, &refusal, &answer);
+    EXPECT("refusal of a pin record", REFUSED_NOT, refusal);
+    EXPECT("answer to a pin record", 0, answer);
     return m;
 }
 
@@ -269,6 +281,70 @@ static void test_unreached_requests(void)
     m.rec = 9;
     after = step(m, KIND_BUS_IDLE, 0, REFUSED_NOT, NO_FLIGHT);
     EXPECT("entering the present mode clears REC", 0, after.rec);
+}
+
+/* From a chip that a log reaches no pin record can carry a request out: TXREQ or a flight
+ * holds it before the step and after it. */
+static void test_unreached_requests_by_pins(void)
+{
+    for (uint8_t mode = 0; mode < MODES; mode++)
+        for (uint8_t was = 0; was < 2; was++)
+            for (uint8_t is = 0; is < 2; is++)
+                for (uint8_t enables = 0; enables < 8; enables++) {
+                    struct model m = chip_in(mode);
+                    bool sends = mode == MODE_NORMAL || mode == MODE_LOOPBACK;
+                    bool requests = was && !is && (enables & 2);
+                    m.request = mode == MODE_SLEEP ? MODE_NORMAL : MODE_SLEEP;
+                    m.reg[TXRTSCTRL] = enables;
+                    m.level[1] = was;
+                    struct model after = step_pin(m, 1, is);
+                    EXPECT("TXREQ by the pin", requests ? TXREQ : 0, after.reg[TXB1CTRL]);
+                    EXPECT("a request after a pin record, which TXREQ may hold",
+                           sends && requests ? mode : m.request, after.mode);
+                    EXPECT("and then still waits", sends && requests ? m.request : NO_REQUEST,
+                           after.request);
+                }
+    struct model m = chip_in(MODE_NORMAL);
+    m.request = MODE_SLEEP;
+    m.flight = 0;
+    EXPECT("a flight holds it too", MODE_NORMAL, step_pin(m, 0, 0).mode);
+}
+
+/* A request over TXREQ with every flag, which no log reaches with ABTF. */
+static void test_unreached_pin_flags(void)
+{
+    for (unsigned ctrl = 0; ctrl < 256; ctrl++)
+        for (unsigned abat = 0; abat < 2; abat++) {
+            struct model m = chip_in(MODE_CONFIGURATION);
+            uint8_t set = (uint8_t)((ctrl & ~(ABTF | MLOA | TXERR)) | TXREQ);
+            m.reg[TXRTSCTRL] = 4;
+            m.reg[TXB2CTRL] = (uint8_t)ctrl;
+            if (abat)
+                m.reg[CANCTRL] |= ABAT;
+            struct model after = step_pin(m, 2, 0);
+            EXPECT("TXB2CTRL after a fall", (ctrl & TXREQ) || abat ? ctrl : set,
+                   after.reg[TXB2CTRL]);
+            m.reg[TXB2CTRL] = after.reg[TXB2CTRL];
+            m.level[2] = 0;
+            EXPECT("nothing else moves", 0, memcmp(&m, &after, sizeof m));
+        }
+}
+
+/* Bits 7, 6 and 2-0 are held as stored, bits 5-3 are not, of whatever chip. */
+static void test_unreached_txrtsctrl(void)
+{
+    for (uint8_t mode = 0; mode < MODES; mode++)
+        for (unsigned stored = 0; stored < 256; stored++)
+            for (unsigned levels = 0; levels < 8; levels++) {
+                struct model m = chip_in(mode);
+                uint8_t want = (uint8_t)((stored & 0xC7) | (levels & ~stored & 7) << 3);
+                m.reg[TXRTSCTRL] = (uint8_t)stored;
+                for (unsigned n = 0; n < REQUEST_PINS; n++)
+                    m.level[n] = levels >> n & 1;
+                EXPECT("TXRTSCTRL held", want, model_holds(&m, TXRTSCTRL));
+                EXPECT("TXRTSCTRL read", want, model_reads(&m, TXRTSCTRL));
+                EXPECT("TXRTSCTRL read above 7Fh", want, model_reads(&m, 0x80 | TXRTSCTRL));
+            }
 }
 
 static void test_unreached_abort(void)
@@ -541,10 +617,11 @@ static const char *broken_reset(const struct model *before, const struct model *
     want.flight = NO_FLIGHT;
     want.selected = 1;
     want.open = OPEN_SPENT;
+    memcpy(want.level, before->level, sizeof want.level);
     return model_int_low(after) ? "INT" : state_difference(&want, after);
 }
 
-/* Any bytes, mode, flight and request at all. */
+/* Any bytes, mode, flight, request and levels at all. */
 static void test_unreached_resets(uint64_t state)
 {
     for (unsigned i = 0; i < 5000; i++) {
@@ -555,6 +632,8 @@ static void test_unreached_resets(uint64_t state)
         m.rec = (uint8_t)(gen_next(&state) >> 40);
         m.flight = (uint8_t)(i / MODES % (NO_FLIGHT + 1));
         m.request = i & 1 ? NO_REQUEST : (uint8_t)(i / 20 % MODES);
+        for (unsigned n = 0; n < REQUEST_PINS; n++)
+            m.level[n] = i / 100 >> n & 1;
         m.selected = 1;
         m.open = OPEN_CODE;
         struct model after = step(m, KIND_EXCHANGE, SPI_RESET, REFUSED_NOT, 0);
@@ -567,6 +646,9 @@ static void test_unreached_resets(uint64_t state)
 static void test_unreached(uint64_t seed)
 {
     test_unreached_requests();
+    test_unreached_requests_by_pins();
+    test_unreached_pin_flags();
+    test_unreached_txrtsctrl();
     test_unreached_abort();
     test_unreached_flights();
     test_unreached_counters();
@@ -603,6 +685,7 @@ static void test_power_on(void)
     zeros.mode = MODE_CONFIGURATION;
     zeros.request = NO_REQUEST;
     zeros.flight = NO_FLIGHT;
+    zeros.level[0] = zeros.level[1] = zeros.level[2] = 1;
     EXPECT("power-on", 0, memcmp(&zeros, &used, sizeof zeros));
 }
 
@@ -634,6 +717,7 @@ static void test_addresses_above_7f(void)
                            : a == TEC            ? 40
                            : a == REC            ? 100
                            : a == EFLG           ? RX1OVR | RXWAR | EWARN
+                           : a == TXRTSCTRL      ? 0x47 /* every pin enabled: no level shows */
                                                  : (uint8_t)(a ^ 0x5A);
             if ((a & 0x0F) == CANSTAT) /* CANINTE 71h and CANINTF 76h share TX2IF, WAKIF, ERRIF */
                 held = (uint8_t)(mode << 5 | 1 << 1);
@@ -944,6 +1028,97 @@ static void test_tidied_buffers(struct script *s)
     CHECK_ORDER(0, 1, 2, 3, 4, 5, 6, 7, 8, 9, 10, 11, 12, 13);
 }
 
+static const uint8_t damaged_pin[RECORD_BYTES] = {KIND_REQUEST_PIN, 0, 2};
+
+/* In Configuration pins 0 and 1 are enabled: ten records. */
+static void enable_two_pins(struct script *s)
+{
+    sc_mode(s, MODE_CONFIGURATION);
+    sc_write(s, TXRTSCTRL, 3);
+}
+
+/* Several pin records in a session that is listed. */
+static void test_tidied_pins(struct script *s)
+{
+    size_t mark;
+    script_clear(s);
+    sc_mode(s, MODE_NORMAL);
+    mark = s->count;
+
+    enable_two_pins(s);
+    sc_low(s); /* RTS: pins before its byte and behind it, refused ones too */
+    sc_pin(s, 0, 0);
+    sc_raw(s, damaged_pin, REFUSED_FIELD, 0);
+    sc_xfer(s, SPI_RTS | 2, 0);
+    sc_raw(s, damaged_pin, REFUSED_FIELD, 0);
+    sc_pin(s, 0, 1);
+    sc_high(s);
+    CHECK_ORDER(0, 1, 2, 3, 4, 5, 6, 7, 8, 9, 11, 12, 10, 13, 16, 14, 15);
+
+    enable_two_pins(s);
+    sc_pin(s, 0, 0);
+    sc_write(s, TXB0CTRL, 0);
+    sc_low(s); /* LOAD of TXB0, whose pin fell before: inside others fall, and it does not */
+    sc_pin(s, 0, 0);
+    sc_xfer(s, 0x40, 0);
+    sc_pin(s, 1, 0);
+    sc_raw(s, damaged_pin, REFUSED_FIELD, 0);
+    sc_xfer(s, 0x11, 0);
+    sc_pin(s, 2, 0);
+    sc_pin(s, 0, 1);
+    sc_high(s);
+    CHECK_ORDER(0, 1, 2, 3, 4, 5, 6, 7, 8, 9, 10, 11, 12, 13, 14, 15, 17, 19, 20, 22, 23, 16, 18,
+                21, 24);
+}
+
+/* Pin 0 falls inside a LOAD of TXB0. */
+static void test_tidied_falls_in_loads(struct script *s)
+{
+    size_t mark;
+    script_clear(s);
+    sc_mode(s, MODE_NORMAL);
+    mark = s->count;
+
+    enable_two_pins(s);
+    sc_low(s); /* not listed, though it falls after the last byte */
+    sc_xfer(s, 0x40, 0);
+    sc_std(s, 1, 0);
+    sc_xfer(s, 0x11, 0);
+    sc_pin(s, 0, 0);
+    sc_high(s);
+    CHECK_ORDER(0, 1, 2, 3, 4, 5, 6, 7, 8, 9, 10, 11, 12, 13, 14, 15);
+
+    enable_two_pins(s);
+    sc_low(s); /* the same before its code */
+    sc_pin(s, 0, 0);
+    sc_xfer(s, 0x40, 0);
+    sc_std(s, 1, 0);
+    sc_high(s);
+    CHECK_ORDER(0, 1, 2, 3, 4, 5, 6, 7, 8, 9, 10, 11, 12, 13, 14);
+
+    enable_two_pins(s);
+    sc_pin(s, 0, 0);
+    sc_write(s, TXB0CTRL, 0);
+    sc_low(s); /* a rise and then a fall inside */
+    sc_xfer(s, 0x40, 0);
+    sc_pin(s, 0, 1);
+    sc_pin(s, 0, 0);
+    sc_high(s);
+    CHECK_ORDER(0, 1, 2, 3, 4, 5, 6, 7, 8, 9, 10, 11, 12, 13, 14, 15, 16, 17, 18, 19, 20);
+
+    enable_two_pins(s);
+    sc_low(s); /* its fall in the LOAD before does not count for the next one */
+    sc_xfer(s, 0x40, 0);
+    sc_pin(s, 0, 0);
+    sc_high(s);
+    sc_write(s, TXB0CTRL, 0);
+    sc_low(s);
+    sc_xfer(s, 0x40, 0);
+    sc_pin(s, 1, 0);
+    sc_high(s);
+    CHECK_ORDER(0, 1, 2, 3, 4, 5, 6, 7, 8, 9, 10, 11, 12, 13, 14, 15, 16, 17, 18, 21, 19, 20, 22);
+}
+
 static void test_tidied_refusals(struct script *s)
 {
     static const uint8_t damaged[RECORD_BYTES] = {KIND_FRAME, 0xFF};
@@ -955,6 +1130,7 @@ static void test_tidied_refusals(struct script *s)
 
     sc_low(s);
     sc_refused(s, REFUSED_SELECT, KIND_SELECT_LOW, 0); /* no event: keeps its place */
+    sc_refused(s, REFUSED_FIELD, KINDS, 0);
     sc_refused(s, REFUSED_FIELD, 200, 0);
     sc_raw(s, damaged, REFUSED_FIELD, 0);                   /* an event by its kind */
     sc_refused(s, REFUSED_STATE, KIND_RECOVERY, 0);         /* the same */
@@ -962,7 +1138,7 @@ static void test_tidied_refusals(struct script *s)
     sc_refused(s, REFUSED_NO_FLIGHT, KIND_FRAME_ENDS, 0);
     sc_refused(s, REFUSED_SELECT, KIND_SELECT_LOW, 0);
     sc_high(s);
-    CHECK_ORDER(3, 4, 0, 1, 2, 5, 7, 8, 6);
+    CHECK_ORDER(4, 5, 0, 1, 2, 3, 6, 8, 9, 7);
 
     sc_low(s); /* a refused exchange is none: RTS alone */
     sc_raw(s, no_exchange, REFUSED_FIELD, 0);
@@ -979,12 +1155,10 @@ static void test_tidied_refusals(struct script *s)
     CHECK_ORDER(0, 1, 2);
 }
 
-/* What the tally counts, which the random tests lean on. */
-static void test_tidied_tally(struct script *s)
+/* Of bus events: WRITE without one, RTS with two, READ and READ RX BUFFER with one. */
+static void sessions_to_count(struct script *s)
 {
-    struct tidy_tally tally = {0};
-    script_clear(s);
-    sc_mode(s, MODE_NORMAL); /* WRITE without events */
+    sc_mode(s, MODE_NORMAL);
     sc_low(s);
     sc_std(s, 1, RX_IN_RXB0);
     sc_xfer(s, SPI_RTS, 0);
@@ -1000,17 +1174,57 @@ static void test_tidied_tally(struct script *s)
         sc_xfer(s, 0, 0);
     sc_rx_error(s, 0);
     sc_high(s);
+}
+
+/* Of pins: a LOAD and an RTS with them, two WRITEs without, and two LOADs not listed. */
+static void pin_sessions_to_count(struct script *s)
+{
+    sc_low(s); /* LOAD TX BUFFER, its pin not enabled, and a damaged record */
+    sc_xfer(s, 0x40, 0);
+    sc_pin(s, 0, 0);
+    sc_refused(s, REFUSED_FIELD, KIND_REQUEST_PIN, 3);
+    sc_high(s);
+    sc_low(s); /* RTS */
+    sc_xfer(s, SPI_RTS, 0);
+    sc_pin(s, 0, 1);
+    sc_high(s);
+    sc_mode(s, MODE_CONFIGURATION);
+    sc_write(s, TXRTSCTRL, 1);
+    sc_low(s); /* a LOAD that the fall cuts */
+    sc_xfer(s, 0x40, 0);
+    sc_pin(s, 0, 0);
+    sc_high(s);
+    sc_low(s); /* one that is not listed anyway: TXREQ is set, by the fall before */
+    sc_xfer(s, 0x40, 0);
+    sc_pin(s, 0, 1);
+    sc_pin(s, 0, 0);
+    sc_high(s);
+}
+
+/* What the tally counts, which the random tests lean on. */
+static void test_tidied_tally(struct script *s)
+{
+    struct tidy_tally tally = {0};
+    script_clear(s);
+    sessions_to_count(s);
+    pin_sessions_to_count(s);
     uint8_t *tidied = malloc(RECORD_BYTES * s->count);
     size_t *map = malloc(s->count * sizeof *map);
     tidy_log(s->records, s->count, tidied, map, &tally);
     for (unsigned i = 0; i < TIDY_COMMANDS; i++) {
-        bool with_events = i == TIDY_RTS || i == TIDY_READ || i == TIDY_READ_RX;
-        EXPECT("listed", with_events || i == TIDY_WRITE, tally.listed[i]);
-        EXPECT("with events", with_events, tally.with_events[i]);
-        EXPECT("cut with events", i == TIDY_READ, tally.cut_with_events[i]);
+        static const uint8_t listed[TIDY_COMMANDS] = {[TIDY_RTS] = 2, [TIDY_READ] = 1,
+                                                      [TIDY_READ_RX] = 1, [TIDY_WRITE] = 3,
+                                                      [TIDY_LOAD_TX] = 1};
+        EXPECT("listed", listed[i], tally.listed[i]);
+        EXPECT("with events", i == TIDY_WRITE ? 0 : listed[i], tally.with_events[i]);
+        EXPECT("cut with events", i == TIDY_READ || i == TIDY_LOAD_TX, tally.cut_with_events[i]);
     }
-    EXPECT("events before", 3, tally.events_before);
-    EXPECT("events after", 1, tally.events_after);
+    EXPECT("events before", 5, tally.events_before);
+    EXPECT("events after", 2, tally.events_after);
+    EXPECT("pins before", 2, tally.pins_before);
+    EXPECT("pins after", 1, tally.pins_after);
+    EXPECT("refused pins", 1, tally.refused_pins);
+    EXPECT("LOAD not listed for a fall", 1, tally.unlisted_by_fall);
     free(tidied);
     free(map);
 }
@@ -1022,6 +1236,8 @@ static void test_tidied_by_hand(void)
     test_tidied_moments(&s);
     test_tidied_cut_and_long(&s);
     test_tidied_buffers(&s);
+    test_tidied_pins(&s);
+    test_tidied_falls_in_loads(&s);
     test_tidied_refusals(&s);
     test_tidied_tally(&s);
     script_free(&s);
@@ -1089,7 +1305,30 @@ static void check_answers(const struct tidied_list *t, bool tidied)
     }
 }
 
-static unsigned tidied_moved, tidied_stayed;
+static unsigned tidied_moved, tidied_stayed, fall_differs, fall_alike;
+
+/* A LOAD that a fall keeps from the list, with the fall put in front of it all the same:
+ * it shows why, or that the rule is kept where it would not matter. */
+static void check_fall(const struct tidied_list *t)
+{
+    size_t records = t->s.count, differ = 0;
+    uint8_t *fronted = malloc(RECORD_BYTES * records);
+    struct outcome *as_came = malloc(records * sizeof *as_came),
+                   *with_front = malloc(records * sizeof *with_front);
+    for (size_t i = 0; i < records; i++)
+        memcpy(fronted + RECORD_BYTES * i, t->s.records + RECORD_BYTES * fronted_record(t, i),
+               RECORD_BYTES);
+    struct model m = run(t->s.records, records, as_came);
+    struct model n = run(fronted, records, with_front);
+    for (size_t i = 0; i < records; i++)
+        differ += !same_outcome(&as_came[fronted_record(t, i)], &with_front[i]);
+    EXPECT(t->name, t->fall == FALL_DIFFERS, differ > 0);
+    EXPECT(t->name, t->fall == FALL_DIFFERS, state_difference(&m, &n) != NULL);
+    *(t->fall == FALL_DIFFERS ? &fall_differs : &fall_alike) += 1;
+    free(fronted);
+    free(as_came);
+    free(with_front);
+}
 
 static void check_tidied_list(const struct tidied_list *t)
 {
@@ -1107,6 +1346,8 @@ static void check_tidied_list(const struct tidied_list *t)
     check_answers(t, false);
     check_answers(t, true);
     check_tidied(0, t->s.records, t->s.count, NULL);
+    if (t->fall != NO_FALL)
+        check_fall(t);
     *(t->from == t->to ? &tidied_stayed : &tidied_moved) += 1;
     free(tidied);
     free(map);
@@ -1164,6 +1405,29 @@ static const char *broken_fact(const struct model *m)
     return NULL;
 }
 
+/* Of a reached chip: what an accepted pin record leaves, and that no other moves a level. */
+static const char *broken_pins(const struct model *before, const uint8_t *record, uint8_t refusal,
+                               const struct model *after)
+{
+    struct model want = *before;
+    uint8_t enables = before->reg[TXRTSCTRL], shown = model_holds(after, TXRTSCTRL);
+    for (unsigned n = 0; n < REQUEST_PINS; n++)
+        if ((shown >> (3 + n) & 1) != (after->level[n] && !(shown >> n & 1)))
+            return "TXRTSCTRL shows the level of a pin that is not enabled, else 0";
+    if (record[0] != KIND_REQUEST_PIN || refusal != REFUSED_NOT)
+        return memcmp(want.level, after->level, sizeof want.level) == 0
+                   ? NULL
+                   : "only an accepted pin record moves a level";
+    uint8_t *ctrl = &want.reg[TXB0CTRL + 0x10 * record[1]];
+    bool fell = want.level[record[1]] == 1 && record[2] == 0;
+    want.level[record[1]] = record[2];
+    if (fell && (enables >> record[1] & 1) && !(want.reg[CANCTRL] & ABAT) && !(*ctrl & TXREQ))
+        *ctrl = TXREQ | (*ctrl & TXP);
+    return memcmp(&want, after, sizeof want) == 0
+               ? NULL
+               : "a pin record moves its level, and a fall requests as RTS does";
+}
+
 static void test_every_step(uint64_t seed)
 {
     struct gen g;
@@ -1178,6 +1442,8 @@ static void test_every_step(uint64_t seed)
         const char *fact = broken_fact(&m);
         if (!fact)
             fact = broken_set(&before, record, &got, &m);
+        if (!fact)
+            fact = broken_pins(&before, record, got.refusal, &m);
         if (!got.refusal && record[0] == KIND_EXCHANGE && before.open == OPEN_CODE &&
             record[1] == SPI_RESET && broken_reset(&before, &m))
             fact = "RESET keeps filters and message bytes and nothing else";
@@ -1244,6 +1510,25 @@ static void check_speed_log(size_t (*make)(uint64_t, uint8_t *, size_t), unsigne
     EXPECT("mostly frames", true, frames > RECORDS * 8 / 10);
     EXPECT("of both sorts", true, extended > frames / 3 && extended < frames - frames / 3);
     EXPECT("stored", hit < MATCH_FILTERS, stored > frames / 50);
+    free(log);
+}
+
+/* The log of pins: no refusal, and every fifth record requests. */
+static void check_pins_log(void)
+{
+    enum { RECORDS = 10000 };
+    uint8_t *log = malloc(RECORD_BYTES * RECORDS);
+    size_t counted = pins_log(2515, log, RECORDS), sent = 0;
+    struct model m;
+    model_power_on(&m);
+    for (size_t i = 0; i < RECORDS && failures == 0; i++) {
+        const uint8_t *record = log + RECORD_BYTES * i;
+        struct outcome got = step_gives(&m, record);
+        EXPECT("refusal in the log of pins", REFUSED_NOT, got.refusal);
+        sent += record[0] == KIND_FRAME_ENDS;
+    }
+    EXPECT("records counted", RECORDS, counted);
+    EXPECT("mostly requests that are sent", true, sent > RECORDS / 6);
     free(log);
 }
 
@@ -1426,13 +1711,34 @@ static struct rarest check_sets(const struct cover *c, bool show)
     struct rarest rarest = {.count = ULONG_MAX};
     char text[64];
     EXPECT("sets otherwise than by match.c", 0, c->set_otherwise);
-    for (unsigned i = COVER_SET_PAST_LOWEST; i < COVER_POINTS; i++) {
+    for (unsigned i = COVER_SET_PAST_LOWEST; i <= COVER_SET_GONE; i++) {
         snprintf(text, sizeof text, "set: %s", cover_text[i]);
         demand_corner(&rarest, c->count[i], text, show);
     }
     check_sets_met(c, show);
     check_filter_pairs(c, &rarest, show);
     check_set_bytes(c, &rarest, show);
+    return rarest;
+}
+
+/* The rules of the request pins by their effect; every enable with every level was read. */
+static struct rarest check_pins(const struct cover *c, bool show)
+{
+    struct rarest rarest = {.count = ULONG_MAX};
+    char text[64];
+    for (unsigned i = COVER_PIN_REQUESTS_0; i < COVER_POINTS; i++) {
+        snprintf(text, sizeof text, "pin: %s", cover_text[i]);
+        demand_corner(&rarest, c->count[i], text, show);
+    }
+    for (unsigned i = 3; i < RECORD_BYTES; i++) {
+        snprintf(text, sizeof text, "pin: refused for byte %u alone", i);
+        demand_corner(&rarest, c->pin_spare[i], text, show);
+    }
+    for (unsigned i = 0; i < COVER_PIN_STATES * COVER_PIN_STATES; i++) {
+        unsigned enables = i / COVER_PIN_STATES, levels = i % COVER_PIN_STATES;
+        snprintf(text, sizeof text, "pin: TXRTSCTRL read, enables %u, levels %u", enables, levels);
+        demand_corner(&rarest, c->txrtsctrl[enables][levels], text, show);
+    }
     return rarest;
 }
 
@@ -1450,10 +1756,18 @@ static void check_tidied_tally(const struct tidy_tally *tally, bool show)
     }
     EXPECT("events before a moment", true, tally->events_before > 0);
     EXPECT("events after a moment", true, tally->events_after > 0);
+    EXPECT("pin records before a moment", true, tally->pins_before > 100);
+    EXPECT("pin records after a moment", true, tally->pins_after > 100);
+    EXPECT("refused pin records in a listed command", true, tally->refused_pins > 100);
+    EXPECT("LOADs not listed for a fall", true, tally->unlisted_by_fall > 100);
+    if (show)
+        printf("%10lu  pin records before a moment, %lu after, %lu of them refused\n"
+               "%10lu  LOAD TX BUFFER not listed for nothing but a fall\n",
+               tally->pins_before, tally->pins_after, tally->refused_pins, tally->unlisted_by_fall);
 }
 
 struct rarest_met {
-    struct rarest stored, match, set;
+    struct rarest stored, match, set, pin;
 };
 
 /* Random logs are worth something only if they get everywhere. */
@@ -1480,6 +1794,7 @@ static struct rarest_met test_coverage(uint64_t seeds, bool show)
     rarest.stored = check_stored_length_codes(&c, show);
     rarest.match = check_match(&c, show);
     rarest.set = check_sets(&c, show);
+    rarest.pin = check_pins(&c, show);
     return rarest;
 }
 
@@ -1494,6 +1809,10 @@ static void tell(const struct rarest_met *rarest)
            rarest->match.count, rarest->match.sort);
     printf("%u sets by hand; corners of their rules: the rarest decides %lu (%s)\n", sets_by_hand,
            rarest->set.count, rarest->set.sort);
+    printf("LOADs cut by a fall: %u lists that tidying would change, %u that it would not\n",
+           fall_differs, fall_alike);
+    printf("corners of the request pins: the rarest decides %lu (%s)\n", rarest->pin.count,
+           rarest->pin.sort);
 }
 
 int main(int argc, char **argv)
@@ -1518,6 +1837,7 @@ int main(int argc, char **argv)
     test_generator(seed);
     check_speed_log(late_log, MATCH_FILTERS);
     check_speed_log(last_log, 5);
+    check_pins_log();
     test_every_step(seed);
     test_demand_3(seed, &tally);
     check_tidied_tally(&tally, show);

@@ -20,6 +20,8 @@ struct session {
     uint8_t code;
     uint8_t rx_full;               /* RXnIF as met at select low */
     bool tx_free[3];               /* TXREQ clear and not in flight at select low */
+    bool fell[3];                  /* TXnRTS fell inside, enabled */
+    size_t refused_pins;           /* pin records refused inside */
 };
 
 /* What a session was, judged at its end. */
@@ -48,6 +50,21 @@ static void note_exchange(struct session *s, uint8_t sent, size_t index)
     s->exchanges++;
 }
 
+/* By the chip that the record met. ABAT does not matter: a fall is one though it
+ * requests nothing. */
+static void note_pin(struct session *s, const struct model *before, const uint8_t *record,
+                     bool refused)
+{
+    unsigned n = record[1];
+    if (refused) {
+        s->refused_pins++;
+        return;
+    }
+    bool enabled = before->reg[TXRTSCTRL] & B0RTSM << n;
+    if (enabled && before->level[n] == 1 && record[2] == 0)
+        s->fell[n] = true;
+}
+
 /* A command of exactly last exchanges that acts at the last of them. */
 static struct verdict acts_at(const struct session *s, enum tidy_command command, size_t last)
 {
@@ -72,6 +89,15 @@ static size_t buffer_exchanges(bool from_data)
     return 1 + (from_data ? 8 : 13);
 }
 
+/* Bytes before a fall on the buffer's own pin go in, those behind it do not: the LOAD
+ * has no single moment. */
+static struct verdict judge_load(const struct session *s)
+{
+    unsigned n = (s->code & 7) / 2;
+    return acts_at_high(s, TIDY_LOAD_TX, s->tx_free[n] && !s->fell[n],
+                        buffer_exchanges(s->code & 1));
+}
+
 static struct verdict judge(const struct session *s)
 {
     if (s->exchanges == 0)
@@ -93,8 +119,7 @@ static struct verdict judge(const struct session *s)
         return acts_at_high(s, TIDY_READ_RX, s->rx_full & (s->code & 4 ? RX1IF : RX0IF),
                             buffer_exchanges(s->code & 2));
     case 0x40: case 0x41: case 0x42: case 0x43: case 0x44: case 0x45:
-        return acts_at_high(s, TIDY_LOAD_TX, s->tx_free[(s->code & 7) / 2],
-                            buffer_exchanges(s->code & 1));
+        return judge_load(s);
     case 0x80: case 0x81: case 0x82: case 0x83: case 0x84: case 0x85: case 0x86: case 0x87:
         return acts_at(s, TIDY_RTS, 1);
     }
@@ -104,7 +129,7 @@ static struct verdict judge(const struct session *s)
 static bool is_event(const uint8_t *log, size_t i)
 {
     uint8_t kind = log[RECORD_BYTES * i];
-    return kind >= KIND_FRAME && kind <= KIND_RECOVERY;
+    return kind >= KIND_FRAME && kind <= KIND_REQUEST_PIN;
 }
 
 /* Puts the records low..high of a listed session in their tidied order. */
@@ -125,17 +150,37 @@ static void arrange(const uint8_t *log, size_t low, size_t moment, size_t high, 
             map[place++] = i;
 }
 
+static bool unlisted_by_fall(const struct session *s)
+{
+    struct session without = *s;
+    memset(without.fell, 0, sizeof without.fell);
+    return judge(&without).listed;
+}
+
+static void count_pins(const struct session *s, const uint8_t *log, size_t moment, size_t high,
+                       struct tidy_tally *tally)
+{
+    for (size_t i = s->low; i <= high; i++)
+        if (log[RECORD_BYTES * i] == KIND_REQUEST_PIN)
+            *(i < moment ? &tally->pins_before : &tally->pins_after) += 1;
+    tally->refused_pins += s->refused_pins;
+}
+
 static void close_session(const struct session *s, const uint8_t *log, size_t high, size_t *map,
                           struct tidy_tally *tally)
 {
     struct verdict v = judge(s);
     size_t before, after;
-    if (!v.listed)
+    size_t moment = v.moment_exchange ? s->exchange_at[v.moment_exchange - 1] : high;
+    if (!v.listed) {
+        if (tally)
+            tally->unlisted_by_fall += unlisted_by_fall(s);
         return;
-    arrange(log, s->low, v.moment_exchange ? s->exchange_at[v.moment_exchange - 1] : high, high,
-            map, &before, &after);
+    }
+    arrange(log, s->low, moment, high, map, &before, &after);
     if (!tally)
         return;
+    count_pins(s, log, moment, high, tally);
     tally->listed[v.command]++;
     tally->events_before += before;
     tally->events_after += after;
@@ -156,9 +201,12 @@ void tidy_log(const uint8_t *log, size_t records, uint8_t *tidied, size_t *map,
         const uint8_t *record = log + RECORD_BYTES * i;
         uint8_t refusal, answer;
         map[i] = i;
+        struct model before = m;
         if (record[0] == KIND_SELECT_LOW && !m.selected)
             open_session(&s, &m, i);
         model_step(&m, record, &refusal, &answer);
+        if (record[0] == KIND_REQUEST_PIN)
+            note_pin(&s, &before, record, refusal != REFUSED_NOT);
         if (refusal != REFUSED_NOT)
             continue;
         if (record[0] == KIND_EXCHANGE)

@@ -1,7 +1,7 @@
 /*
  * The tidied form of a log. A session that is one of the listed commands acts
- * at a single moment. Tidying takes the bus events out of such a session: the
- * earlier ones go in front of it, the later ones behind it.
+ * at a single moment. Tidying takes the events of bus and pins out of such a
+ * session: the earlier ones go in front of it, the later ones behind it.
  */
 #ifndef BENCH_TIDY_H
 #define BENCH_TIDY_H
@@ -31,6 +31,10 @@ struct tidy_tally {
     unsigned long cut_with_events[TIDY_COMMANDS]; /* ended before their moment came */
     unsigned long events_before;                  /* events moved to the front */
     unsigned long events_after;
+    unsigned long pins_before; /* of these the request pins, and those of them refused */
+    unsigned long pins_after;
+    unsigned long refused_pins;
+    unsigned long unlisted_by_fall; /* LOADs that are not listed for nothing but a fall inside */
 };
 
 extern const char *const tidy_command_name[TIDY_COMMANDS];

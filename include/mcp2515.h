@@ -20,6 +20,8 @@
  *                             lost, 2 error                    as for a frame
  *   6     receive error       byte 1: REC up by 1 (0), 8 (1)   0
  *   7     bus-off recovery                                     0
+ *   8     request pin         byte 1: n of TXnRTS, 0 to 2;     0
+ *                             byte 2: its level, 0 or 1
  *
  * Two bytes come back for each record, refusal then answer. A refused record
  * answers 0 and changes no byte of the chip, which takes the next record.
@@ -49,7 +51,7 @@
 extern "C" {
 #endif
 
-#define MCP2515_VERSION "0.2.0" /* of header, archive and tool */
+#define MCP2515_VERSION "0.3.0" /* of header, archive and tool */
 
 #define MCP2515_RECORD_SIZE 16
 #define MCP2515_ANSWER_SIZE 2     /* refusal and answer of one record */
@@ -66,33 +68,35 @@ extern "C" {
  *   place    what
  *   0-127    the bytes of 00h to 7Fh at their addresses; those of CANINTE,
  *            CANINTF, EFLG, TXBnCTRL, RXBnCTRL, TEC, REC, CANSTAT and CANCTRL
- *            are not used
+ *            are not used, nor are bits 3 to 5 of TXRTSCTRL
  *   128-131  CANCTRL, CANINTE, CANINTF, EFLG (its two overflow bits)
  *   132-136  TXB0CTRL, TXB1CTRL, TXB2CTRL, RXB0CTRL, RXB1CTRL
  *   137-139  TEC low byte, REC, TEC high byte
  *   140      mode by number, from 4 on Configuration
  *   141      buffer in flight, from 3 on none
  *   142      mode requested, from 5 on none
- *   143      select line and open instruction: 0 select is high; else low, and
+ *   143-145  level of TX0RTS, TX1RTS, TX2RTS: 0 low, any other byte high
+ *   146      select line and open instruction: 0 select is high; else low, and
  *            the next byte is 1 a code, 2 the address of a READ, 3 a READ's
  *            reply, 4 the address of a WRITE, 5 a byte to WRITE, 6 address,
  *            7 mask, 8 data of a BIT MODIFY, 9 and 10 a reply from RXB0 and
  *            RXB1, 11 READ STATUS, 12 RX STATUS; from 13 on nothing more
- *   144      its address (bit 7 does not count), for 3, 5 and 7 to 10
- *   145      its mask, for 8
- *   146-150  spare, never changed
- *   151      the version, 1
+ *   147      its address (bit 7 does not count), for 3, 5 and 7 to 10
+ *   148      its mask, for 8
+ *   149-150  spare, never changed
+ *   151      the version, 2
  *
  * What an address shows is asked by mcp2515_hold; the places below are those
  * of what no address shows whole.
  */
 #define MCP2515_CHIP_SIZE 152
-#define MCP2515_CHIP_VERSION 1
+#define MCP2515_CHIP_VERSION 2
 #define MCP2515_PLACE_TEC_LOW 137
 #define MCP2515_PLACE_TEC_HIGH 139
 #define MCP2515_PLACE_FLIGHT 141
 #define MCP2515_PLACE_MODE_REQUESTED 142
-#define MCP2515_PLACE_OPEN 143
+#define MCP2515_PLACE_PINS 143
+#define MCP2515_PLACE_OPEN 146
 #define MCP2515_PLACE_VERSION 151
 
 /* Refusals of a record, beside 0. */

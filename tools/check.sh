@@ -258,7 +258,7 @@ shows "$work/busy.log" \
     'RXM0           standard 7FFh, data bytes FFh 0Fh; extended 1FFFFF0Fh' \
     'RXF1           extended 12375678h' 'CNF1      45h  SJW 1 BRP 5' \
     'CNF2      9Ah  BTLMODE PHSEG1 3 PRSEG 2' 'CNF3      C1h  SOF WAKFIL PHSEG2 1' \
-    'BFPCTRL   2Ah  B1BFS B1BFE B1BFM' 'TXRTSCTRL 05h  B2RTSM B0RTSM'
+    'BFPCTRL   2Ah  B1BFS B1BFE B1BFM' 'TXRTSCTRL 15h  B1RTS B2RTSM B0RTSM'
 {
     session 02 0F 07
     session 81
@@ -308,7 +308,7 @@ for help in "--help" "replay --help" "chip --help" "replay --refused --help"; do
 done
 run --version
 status 0 $? "--version"
-grep -q '^mcp2515 [0-9.]*, chip version 1$' "$work/out" || stop "--version: $(cat "$work/out")"
+grep -q '^mcp2515 [0-9.]*, chip version 2$' "$work/out" || stop "--version: $(cat "$work/out")"
 for bad in "" "nonsense" "--nonsense" "replay --nonsense" "replay -x" "replay a b" "chip" "chip a b" \
     "chip --refused a" "-" "--"; do
     # shellcheck disable=SC2086
@@ -328,5 +328,7 @@ say "--help, --version, bad arguments, --"
 . "$root/tools/check_compare.sh"
 # shellcheck source=tools/check_filters.sh
 . "$root/tools/check_filters.sh"
+# shellcheck source=tools/check_pins.sh
+. "$root/tools/check_pins.sh"
 
 echo "tool check: $tried groups passed"

@@ -376,6 +376,7 @@ tells 'exchange 07h, WRITE to 0Fh' 01 07 # Normal
 step 02
 tells 'bus idle: TXB2 goes' 04
 tells 'receive error, adds 1: refused, an own frame is in flight' 06
+tells 'request pin TX2RTS low' 08 02
 tells 'frame standard 123h, DLC 0: refused, an own frame is in flight' 03 00 00 00 00 00 01 23
 tells 'own frame ends, arbitration lost' 05 01
 step 04
@@ -407,6 +408,8 @@ tells 'unknown kind, bytes 2A 01 02 00 00 00 00 00 00 00 00 00 00 00 00 FF: refu
     2A 01 02 00 00 00 00 00 00 00 00 00 00 00 00 FF
 tells 'frame, bytes 03 00 10 00 00 00 07 FF 01 00 00 00 00 00 00 00: refused, unknown kind, or a byte out of range' 03 00 10 00 00 00 07 FF 01
 tells 'own frame ends, bytes 05 03 00 00 00 00 00 00 00 00 00 00 00 00 00 00: refused, unknown kind, or a byte out of range' 05 03
+tells 'request pin, bytes 08 03 01 00 00 00 00 00 00 00 00 00 00 00 00 00: refused, unknown kind, or a byte out of range' 08 03 01
+tells 'unknown kind, bytes 09 00 00 00 00 00 00 00 00 00 00 00 00 00 00 00: refused, unknown kind, or a byte out of range' 09
 steps 02 0F 47 # Loopback
 steps 81
 step 04

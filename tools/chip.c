@@ -69,7 +69,8 @@ static const struct field bfpctrl_fields[] = {{0x20, "B1BFS"}, {0x10, "B0BFS"}, 
                                               {0x04, "B0BFE"}, {0x02, "B1BFM"}, {0x01, "B0BFM"},
                                               {0, NULL}};
 static const struct field txrtsctrl_fields[] = {
-    {0x04, "B2RTSM"}, {0x02, "B1RTSM"}, {0x01, "B0RTSM"}, {0, NULL}};
+    {0x20, "B2RTS"},  {0x10, "B1RTS"},  {0x08, "B0RTS"}, {0x04, "B2RTSM"},
+    {0x02, "B1RTSM"}, {0x01, "B0RTSM"}, {0, NULL}};
 
 /* Registers that are told by their fields alone. */
 struct named_register {
@@ -216,6 +217,14 @@ static void print_state(const struct ran *ran)
         puts("in flight      none");
 }
 
+/* TXRTSCTRL shows the level of a pin only where the pin is not enabled. */
+static void print_pins(const struct ran *ran)
+{
+    enum { PINS = 3 };
+    for (unsigned n = 0; n < PINS; n++)
+        printf("TX%uRTS         %s\n", n, ran->chip[MCP2515_PLACE_PINS + n] == 0 ? "low" : "high");
+}
+
 static void print_counters(const struct ran *ran)
 {
     unsigned tec = ran->chip[MCP2515_PLACE_TEC_HIGH] * 256u + ran->chip[MCP2515_PLACE_TEC_LOW];
@@ -285,6 +294,7 @@ static int run(int argc, char **argv)
     if (status != STATUS_GOOD)
         return status;
     print_state(&ran);
+    print_pins(&ran);
     print_counters(&ran);
     print_registers(&ran);
     print_buffers(&ran);
@@ -297,8 +307,9 @@ const struct subcommand chip_command = {
     .summary = "print the registers after a log, by name",
     .help = "usage: mcp2515 chip [--] LOG\n\n"
             "Runs LOG (- is standard input) from power-on and prints what the chip holds then:\n"
-            "mode, INT, error counters, control registers with the bits that are set, buffers,\n"
-            "masks and filters. Data bytes that a message does not carry are in brackets.\n\n"
+            "mode, INT, request pins, error counters, control registers with the bits that are\n"
+            "set, buffers, masks and filters. Data bytes that a message does not carry are in\n"
+            "brackets.\n\n"
             "Exit status: 0, or 2 for trouble. A log that ends inside a record (refusal 6) or\n"
             "has more than 65,535 (refusal 8) is trouble: it is not run and nothing is printed.\n",
     .run = run,

@@ -7,13 +7,24 @@
 #include "mcp2515.h"
 #include "tool.h"
 
-enum { SELECT_LOW, EXCHANGE, SELECT_HIGH, FRAME, BUS_IDLE, FRAME_ENDS, RECEIVE_ERROR, RECOVERY };
+enum {
+    SELECT_LOW,
+    EXCHANGE,
+    SELECT_HIGH,
+    FRAME,
+    BUS_IDLE,
+    FRAME_ENDS,
+    RECEIVE_ERROR,
+    RECOVERY,
+    REQUEST_PIN
+};
 
 static const char *const kinds[] = {
     [SELECT_LOW] = "select low",       [EXCHANGE] = "exchange",
     [SELECT_HIGH] = "select high",     [FRAME] = "frame",
     [BUS_IDLE] = "bus idle",           [FRAME_ENDS] = "own frame ends",
     [RECEIVE_ERROR] = "receive error", [RECOVERY] = "bus-off recovery",
+    [REQUEST_PIN] = "request pin",
 };
 enum { KINDS = sizeof kinds / sizeof *kinds };
 
@@ -137,6 +148,9 @@ static void tell_sound(char *text, const uint8_t *chip, const uint8_t *record)
         break;
     case RECEIVE_ERROR:
         add(text, "receive error, adds %d", record[1] == 0 ? 1 : 8);
+        break;
+    case REQUEST_PIN:
+        add(text, "request pin TX%uRTS %s", record[1], record[2] == 0 ? "low" : "high");
         break;
     default:
         add(text, "%s", kinds[record[0]]);

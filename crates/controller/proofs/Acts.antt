@@ -1,30 +1,39 @@
 -- What the acts on an image have in common, and what the image says of mode, flight and messages. Assumes nothing.
-use mathlib.Core.Path.{_≡_, refl, ap, sym, _∙_}
-use mathlib.Core.Bool.{Bool, true, false, cond}
+use mathlib.Core.Path.{_≡_, refl, ap, sym, subst, _∙_}
+use mathlib.Core.Bool.{Bool, true, false, cond, not, _&&_}
 use mathlib.Core.List.{List}
-use Prim.Native.Nat.{ℕ, _+_, _<_, _≤_}
+use Prim.Native.Nat.{ℕ, _+_, _-_, _*_, _/_, _%_, _<_, _≤_}
 use native.Mathlib.Omega.{arith}
 use lib.ListN.{length, getD, set, take, drop}
-use lib.Seq.{getD-take, getD-drop}
-use Rattle.bits.specs.Bit.{hasBit}
+use lib.Dec.{eqb}
+use lib.Seq.{getD-take, getD-drop, getD-set-other}
+use Rattle.bits.specs.Bit.{hasBit, setBit, clearBit}
 use Rattle.records.specs.declared.Frame.{Frame}
 use Rattle.records.specs.declared.Fields.{Fields}
 use Rattle.records.specs.declared.Outcome.{Outcome}
 use Rattle.records.specs.Records.{accepted, refusedOutcome, kindBy, kindOf, recordOf}
 use Rattle.registers.specs.declared.Mode.{Mode}
 use Rattle.registers.specs.declared.TxBuffer.{TxBuffer}
+use Rattle.registers.specs.declared.TxBuffer.the-variants.{Txb0, Txb1, Txb2}
 use Rattle.registers.specs.declared.Flight.{Flight}
 use Rattle.registers.specs.declared.Flight.the-variants.{Idle, Of}
 use Rattle.registers.specs.declared.Control.{Control}
+use Rattle.registers.specs.declared.Pins.{Pins}
 use Rattle.registers.specs.declared.Core.{Core}
-use Rattle.registers.specs.State.{WAKIF, txNumber, isLoopback, withFlight, withControl}
+use Rattle.registers.specs.State.{WAKIF, TXREQ, txNumber, txFlag, isNormal, isLoopback, withCounters, withFlight, withControl, withLevel, withPins, rtsBit}
 use Rattle.receiving.specs.declared.Reception.the-variants.{Woke}
 use Rattle.receiving.specs.Receiving.{receptionNumber, receivedOf}
 use Rattle.receiving.specs.AnswerSets.{wantedSet, AnswerSet, answerSetTo, plainAnswer}
-use Rattle.image.specs.Image.{imageSize, modeOf, flightOf, decoded, controlOf, coreOf, Became, Acted, Answered}
+use Rattle.image.specs.Image.{imageSize, modeOf, flightOf, decoded, controlOf, pinsOf, coreOf, Became, Acted, Answered}
 use Rattle.image.proofs.Laws.{flight-back, unmarked, mark-one, marked, followed}
-use Rattle.controller.specs.Sending.{endOf, frameAt}
-use Rattle.controller.specs.Events.{ignored, wokenControl, sleeping, heardIn, heardOf, endsIn, endsBy, ended}
+use Rattle.image.proofs.Places.{config-byte}
+use Rattle.registers.proofs.Falling.{sent-falling}
+use Rattle.registers.specs.Errors.{tecLess}
+use Rattle.registers.specs.Registers.{firstControl}
+use Rattle.controller.specs.Sending.{endOf, counted, sentBy, frameAt}
+use Rattle.stores.specs.Store.{requestedToSend}
+use Rattle.receiving.proofs.Stored.{unchanged}
+use Rattle.controller.specs.Events.{ignored, wokenControl, sleeping, heardIn, heardOf, endsIn, endsBy, ended, pinOf, fallsEnabled, pinRequested, pinMoved}
 
 -- ---- control registers changed and put back
 pub packed : {m n : List ℕ} {c d : Control} → length m ≡ imageSize → Acted m n (withControl (coreOf m) c) → c ≡ d → Became m n (withControl (coreOf m) d)
@@ -69,6 +78,71 @@ unfolding decoded
 flight-put m b e =
     marked (mark-one (unmarked m e) 141 (txNumber b) (omega arith) (omega arith)) (withFlight (controlOf m) (Of b))
     (ap (λ (f : Flight). withFlight (controlOf m) f) (flight-back (Of b)))
+
+-- ---- a frame that was sent, in place
+pub sent-marked : (m : List ℕ) (b : TxBuffer) → length m ≡ imageSize
+    → Became m (set (set (set m (132 + txNumber b) (clearBit (getD m (132 + txNumber b) 0) TXREQ)) 130
+    (setBit (getD (set m (132 + txNumber b) (clearBit (getD m (132 + txNumber b) 0) TXREQ)) 130 0) (txFlag b))) 141 3)
+    (withControl (coreOf m) (sentBy (controlOf m) b))
+unfolding decoded sentBy
+sent-marked m Txb0 e = marked (mark-one (mark-one (mark-one (unmarked m e) 132 _ (omega arith) (omega arith)) 130 _ (omega arith) (omega arith)) 141 3 (omega arith) (omega arith)) _ (rw (getD-set-other m 132 130 _ 0 (λ z. omega arith)))
+sent-marked m Txb1 e = marked (mark-one (mark-one (mark-one (unmarked m e) 133 _ (omega arith) (omega arith)) 130 _ (omega arith) (omega arith)) 141 3 (omega arith) (omega arith)) _ (rw (getD-set-other m 133 130 _ 0 (λ z. omega arith)))
+sent-marked m Txb2 e = marked (mark-one (mark-one (mark-one (unmarked m e) 134 _ (omega arith) (omega arith)) 130 _ (omega arith) (omega arith)) 141 3 (omega arith) (omega arith)) _ (rw (getD-set-other m 134 130 _ 0 (λ z. omega arith)))
+
+-- TEC in its two bytes
+pub tec-counted : (m : List ℕ) (x : ℕ) {mode : Mode} {c : Control} → length m ≡ imageSize → isNormal mode ≡ true → mode ≡ modeOf (getD m 140 0)
+    → x ≡ c .counters .tec - 1 → Answered m c (controlOf m) firstControl
+    → Became m (set (set m 137 (x % 256)) 139 (x / 256)) (withControl (coreOf m) (counted (controlOf m) (tecLess (controlOf m .counters))))
+unfolding decoded
+tec-counted m x e n p q a =
+    let normal : isNormal (controlOf m .state .mode) ≡ true = ap isNormal (sym p) ∙ n in
+    let less : x ≡ controlOf m .counters .tec - 1 = q ∙ ap (λ (d : Control). d .counters .tec - 1) (a .image e) in
+    let whole : x % 256 + x / 256 * 256 ≡ x = omega arith in
+    marked (mark-one (mark-one (unmarked m e) 137 (x % 256) (omega arith) (omega arith)) 139 (x / 256) (omega arith) (omega arith)) _
+    (ap (λ (t : ℕ). withCounters (controlOf m) (record { tec = t; rec = getD m 138 0 })) (whole ∙ less) ∙ sym (rw normal (sent-falling (controlOf m))))
+
+pub tec-kept : (m : List ℕ) {mode : Mode} → length m ≡ imageSize → isNormal mode ≡ false → mode ≡ modeOf (getD m 140 0)
+    → Became m m (withControl (coreOf m) (counted (controlOf m) (tecLess (controlOf m .counters))))
+unfolding decoded
+tec-kept m e n p =
+    let other : isNormal (controlOf m .state .mode) ≡ false = ap isNormal (sym p) ∙ n in
+    rw other (unchanged m e)
+
+pub sent-counted : {m n p : List ℕ} (b : TxBuffer) → Became m n (withControl (coreOf m) (sentBy (controlOf m) b))
+    → Became n p (withControl (coreOf n) (counted (controlOf n) (tecLess (controlOf n .counters))))
+    → Became m p (withControl (coreOf m) (counted (sentBy (controlOf m) b) (tecLess (controlOf m .counters))))
+unfolding sentBy
+sent-counted b w v = followed (λ (k : Core). withControl k (counted (k .control) (tecLess (k .control .counters)))) w v
+
+-- ---- a request pin
+-- its level and its enable by the number of the buffer
+pub pin-falls : (m : List ℕ) (b : TxBuffer) (high : Bool)
+    → (hasBit (getD m 13 0) (txNumber b) && (not (eqb (getD m (143 + txNumber b) 0) 0) && not high)) ≡ fallsEnabled (coreOf m) b high
+pin-falls m Txb0 high = rw (config-byte m 13 (omega arith))
+pin-falls m Txb1 high = rw (config-byte m 13 (omega arith))
+pin-falls m Txb2 high = rw (config-byte m 13 (omega arith))
+
+pub pin-requested : {m n : List ℕ} (b : TxBuffer) (high : Bool) → length m ≡ imageSize → fallsEnabled (coreOf m) b high ≡ true
+    → Acted m n (withControl (coreOf m) (requestedToSend (controlOf m) (rtsBit b))) → Became m n (pinRequested (coreOf m) b high)
+pin-requested b high e f w = rw f (w .image e)
+
+pub pin-idle : {m : List ℕ} (b : TxBuffer) (high : Bool) → length m ≡ imageSize → fallsEnabled (coreOf m) b high ≡ false
+    → Became m m (pinRequested (coreOf m) b high)
+pin-idle {m} b high e f = rw f (unchanged m e)
+
+-- a request moves no level
+same-pins : (k : Core) (c : Control) (x : Bool) → cond x (withControl k c) k .pins ≡ k .pins
+same-pins k c true = refl
+same-pins k c false = refl
+
+-- the pin of number x, which is that of the buffer b
+pub pin-moved : {m n p : List ℕ} {b : TxBuffer} (x : ℕ) (high : Bool) → b ≡ pinOf x → Became m n (pinRequested (coreOf m) b high)
+    → Acted n p (withPins (coreOf n) (withLevel (pinsOf n) b high)) → Became m p (pinMoved (coreOf m) (pinOf x) high)
+pin-moved {m} {n} {p} {b} x high e w a =
+    subst (λ (y : TxBuffer). Became m p (pinMoved (coreOf m) y high)) e
+    (subst (λ (q : Pins). Became m p (withPins (pinRequested (coreOf m) b high) (withLevel q b high)))
+    (same-pins (coreOf m) (requestedToSend (controlOf m) (rtsBit b)) (fallsEnabled (coreOf m) b high))
+    (followed (λ (k : Core). withPins k (withLevel (k .pins) b high)) w (a .image (w .size))))
 
 -- ---- by the mode and the flight that the image says
 pub heard-by : (m : List ℕ) (f : Frame) (mode : Mode) → modeOf (getD m 140 0) ≡ mode → heardOf (coreOf m) f ≡ heardIn mode (coreOf m) f

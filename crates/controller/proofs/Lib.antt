@@ -1,2 +1,2 @@
-pub mod Falling
+pub mod Received
 pub mod Acts

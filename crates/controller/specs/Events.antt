@@ -1,11 +1,11 @@
--- Bus events, kinds 3 to 7: when one is refused, its answer, and the core after it.
+-- Events of the bus and of the request pins, kinds 3 to 8: when one is refused, its answer, and the core after it.
 use Prim.Native.Nat.{ℕ}
 use mathlib.Core.Bool.{Bool, true, false, cond, not, _&&_}
 use mathlib.Core.List.{List}
 use lib.Dec.{eqb}
 use Rattle.bits.specs.Bit.{hasBit, setBit}
 use Rattle.records.specs.declared.Kind.{Kind}
-use Rattle.records.specs.declared.Kind.the-variants.{SelectLow, Exchange, SelectHigh, FrameHeard, BusIdle, FrameEnds, ReceiveError, Recovery, Unknown}
+use Rattle.records.specs.declared.Kind.the-variants.{SelectLow, Exchange, SelectHigh, FrameHeard, BusIdle, FrameEnds, ReceiveError, Recovery, PinLevel, Unknown}
 use Rattle.records.specs.declared.Frame.{Frame}
 use Rattle.records.specs.declared.Outcome.{Outcome}
 use Rattle.records.specs.Records.{refusedOutcome, accepted, refusedField, refusedInFlight, refusedNoFlight, refusedState, byteAt, kindOf, frameOf, soundOf}
@@ -14,11 +14,14 @@ use Rattle.registers.specs.declared.Mode.the-variants.{Normal, Sleep, Loopback,
 use Rattle.registers.specs.declared.Flight.{Flight}
 use Rattle.registers.specs.declared.Flight.the-variants.{Idle, Of}
 use Rattle.registers.specs.declared.TxBuffer.{TxBuffer}
+use Rattle.registers.specs.declared.TxBuffer.the-variants.{Txb0, Txb1, Txb2}
 use Rattle.registers.specs.declared.Control.{Control}
 use Rattle.registers.specs.declared.Core.{Core}
-use Rattle.registers.specs.State.{WAKIF, MERRF, isNormal, isLoopback, isIdle, withCounters, withCanintf, withControl}
+use Rattle.registers.specs.State.{WAKIF, MERRF, isNormal, isLoopback, isIdle, levelOf, withLevel, rtsBit, withCounters, withCanintf, withControl, withPins}
 use Rattle.registers.specs.Errors.{isBusOff, movedTo, recLess, recMore, noErrors}
+use Rattle.registers.specs.Registers.{isEnabled}
 use Rattle.registers.specs.Modes.{entered, settled}
+use Rattle.stores.specs.Store.{requestedToSend}
 use Rattle.receiving.specs.declared.Reception.the-variants.{NotListening, Woke}
 use Rattle.receiving.specs.Receiving.{receptionNumber, Received, receivedOf}
 use Rattle.receiving.specs.AnswerSets.{wantedSet, AnswerSet}
@@ -122,6 +125,28 @@ recovered c = withCounters c noErrors
 abbrev pub quiet : Core → Control → Happened
 quiet k c = plain 0 (withControl k c)
 
+-- ---- kind 8: a request pin, TXnRTS of TXBn by n in byte 1, and its level in byte 2
+abbrev pub pinOf : ℕ → TxBuffer
+pinOf n = cond (eqb n 0) Txb0 (cond (eqb n 1) Txb1 Txb2)
+
+abbrev pub isHighLevel : ℕ → Bool
+isHighLevel level = not (eqb level 0)
+
+-- a fall, from high to low, of a pin that TXRTSCTRL enables
+abbrev pub fallsEnabled : Core → TxBuffer → Bool → Bool
+fallsEnabled k b high = isEnabled k b && (levelOf (k .pins) b && not high)
+
+-- .. requests the buffer as RTS of it alone does
+abbrev pub pinRequested : Core → TxBuffer → Bool → Core
+pinRequested k b high = cond (fallsEnabled k b high) (withControl k (requestedToSend (k .control) (rtsBit b))) k
+
+-- in any case the level moves
+abbrev pub pinMoved : Core → TxBuffer → Bool → Core
+pinMoved k b high = withPins (pinRequested k b high) (withLevel (k .pins) b high)
+
+unfoldable pub pinned : Core → List ℕ → Core
+pinned k r = pinMoved k (pinOf (byteAt r 1)) (isHighLevel (byteAt r 2))
+
 -- ---- an accepted event
 abbrev pub happensBy : Kind → Core → List ℕ → Happened
 happensBy SelectLow k r = plain 0 k
@@ -132,6 +157,7 @@ happensBy BusIdle k r = idled k
 happensBy FrameEnds k r = ended k (byteAt r 1)
 happensBy ReceiveError k r = quiet k (errorHeard (k .control) (byteAt r 1))
 happensBy Recovery k r = quiet k (recovered (k .control))
+happensBy PinLevel k r = plain 0 (pinned k r)
 happensBy Unknown k r = plain 0 k
 
 -- ---- refusals 3, 4 and 5, where refusal 2 does not name the record; any record but an event is refused as a field
@@ -157,6 +183,7 @@ refusalBy BusIdle c r = busyRefusal c
 refusalBy FrameEnds c r = endRefusal c (byteAt r 1)
 refusalBy ReceiveError c r = busyRefusal c
 refusalBy Recovery c r = recoveryRefusal c
+refusalBy PinLevel c r = accepted
 refusalBy Unknown c r = refusedField
 
 unfoldable pub eventRefusal : Control → List ℕ → ℕ

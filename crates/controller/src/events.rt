@@ -1,10 +1,10 @@
-// Bus events: when one is refused, its answer, and the core after it.
+// Events of the bus and of the request pins: when one is refused, its answer, and the core after it.
 ghost use mathlib.Core.Path.{_≡_};
 ghost use mathlib.Core.Bool.{not, _&&_};
 ghost use lib.ListN.{length};
 ghost use Rattle.records.specs.Records.{recordOf};
 ghost use Rattle.registers.specs.State.{isNormal, isIdle, withControl};
-ghost use Rattle.registers.specs.Errors.{isBusOff, movedTo, recLess};
+ghost use Rattle.registers.specs.Errors.{isBusOff, movedTo, tecLess, recLess};
 ghost use Rattle.receiving.specs.AnswerSets.{answerSetTo, answerSetIn, plainAnswer};
 ghost use Rattle.image.specs.Image.{
   imageSize,
@@ -15,6 +15,7 @@ ghost use Rattle.image.specs.Image.{
   Answered,
   RefusedKept,
 };
+ghost use Rattle.controller.specs.Sending.{counted, sentBy};
 ghost use Rattle.controller.specs.Events.{
   wokenControl,
   sleeping,
@@ -30,6 +31,10 @@ ghost use Rattle.controller.specs.Events.{
   erred,
   errorHeard,
   recovered,
+  pinOf,
+  fallsEnabled,
+  pinRequested,
+  pinned,
   happensBy,
   busyRefusal,
   endRefusal,
@@ -47,11 +52,18 @@ use crate::sending::end;
 use crate::sending::end_of;
 use crate::sending::frame_sent;
 use crate::sending::sent;
+use crate::sending::tx_flag;
 use image::CANINTE;
+use image::CANINTF;
 use image::FLIGHT;
 use image::MODE;
+use image::PINS;
 use image::REC;
 use image::SIZE;
+use image::TEC;
+use image::TEC_HIGH;
+use image::TXB0CTRL;
+use image::TXRTSCTRL;
 use receiving::Reception;
 use records::ACCEPTED;
 use records::Fields;
@@ -66,8 +78,12 @@ use registers::Control;
 use registers::Flight;
 use registers::MERRF;
 use registers::Mode;
+use registers::TXREQ;
 use registers::TxBuffer;
 use registers::WAKIF;
+
+// The byte of no flight.
+const NO_FLIGHT: u8 = 3;
 
 // An answer stands in the low byte, and in the high byte a set where one is asked for.
 fn plain(answer: u8) -> u16
@@ -166,7 +182,43 @@ fn deliver(image: &mut [u8], buffer: TxBuffer, wanted: bool) -> u16
     receiving::receive(image, own, wanted)
 }
 
-fn finish(image: &mut [u8], buffer: TxBuffer, outcome: End) -> u16
+// The buffer is sent: nothing is in flight any more.
+fn mark_sent(image: &mut [u8], buffer: TxBuffer)
+    requires { ⌜ length (now image) ≡ imageSize ⌝ }
+    ensures { λ _. ⌜ Became (now (image .entry)) (now (image .exit)) (withControl (coreOf (now (image .entry))) (sentBy (controlOf (now (image .entry))) buffer)) ⌝ }
+{
+    let place = TXB0CTRL + (registers::tx_number(buffer) as usize);
+    image[place] = image[place] & !TXREQ;
+    image[CANINTF] = bits::set(image[CANINTF], tx_flag(buffer));
+    image[FLIGHT] = NO_FLIGHT;
+}
+
+// In Normal TEC falls, by which no error flag rises.
+fn count_sent(image: &mut [u8])
+    requires { ⌜ length (now image) ≡ imageSize ⌝ }
+    ensures { λ _. ⌜ Became (now (image .entry)) (now (image .exit)) (withControl (coreOf (now (image .entry))) (counted (controlOf (now (image .entry))) (tecLess (controlOf (now (image .entry)) .counters)))) ⌝ }
+{
+    if registers::is_normal(image::mode_of(image[MODE])) {
+        let control = image::control_of(image);
+        let tec = registers::less_one(control.counters.tec);
+        image[TEC] = (tec % 256) as u8;
+        image[TEC_HIGH] = (tec / 256) as u8;
+        return;
+    }
+}
+
+// A frame that is sent, in place: most ends are this one.
+fn finish_sent(image: &mut [u8], buffer: TxBuffer) -> u16
+    requires { ⌜ length (now image) ≡ imageSize ⌝ }
+    ensures { λ r. ⌜ answerSetIn r ≡ plainAnswer 0 ⌝ }
+    ensures { λ _. ⌜ Became (now (image .entry)) (now (image .exit)) (finished (coreOf (now (image .entry))) buffer End.Sent .core) ⌝ }
+{
+    mark_sent(image, buffer);
+    count_sent(image);
+    plain(0)
+}
+
+fn finish_failed(image: &mut [u8], buffer: TxBuffer, outcome: End) -> u16
     requires { ⌜ length (now image) ≡ imageSize ⌝ }
     ensures { λ r. ⌜ answerSetIn r ≡ plainAnswer 0 ⌝ }
     ensures { λ _. ⌜ Became (now (image .entry)) (now (image .exit)) (finished (coreOf (now (image .entry))) buffer outcome .core) ⌝ }
@@ -174,6 +226,18 @@ fn finish(image: &mut [u8], buffer: TxBuffer, outcome: End) -> u16
     let control = image::control_of(image);
     image::put_control(image, end(outcome, control, buffer));
     plain(0)
+}
+
+fn finish(image: &mut [u8], buffer: TxBuffer, outcome: End) -> u16
+    requires { ⌜ length (now image) ≡ imageSize ⌝ }
+    ensures { λ r. ⌜ answerSetIn r ≡ plainAnswer 0 ⌝ }
+    ensures { λ _. ⌜ Became (now (image .entry)) (now (image .exit)) (finished (coreOf (now (image .entry))) buffer outcome .core) ⌝ }
+{
+    match outcome {
+        End::Sent => finish_sent(image, buffer),
+        End::LostArbitration => finish_failed(image, buffer, outcome),
+        End::Failed => finish_failed(image, buffer, outcome),
+    }
 }
 
 fn finish_in(image: &mut [u8], loopback: bool, buffer: TxBuffer, outcome: End, wanted: bool) -> u16
@@ -285,6 +349,50 @@ fn recover(image: &mut [u8]) -> u8
     0
 }
 
+fn pin_of(number: u8) -> TxBuffer
+    ensures { λ r. ⌜ r ≡ pinOf number ⌝ }
+{
+    match number {
+        0 => TxBuffer::Txb0,
+        1 => TxBuffer::Txb1,
+        _ => TxBuffer::Txb2,
+    }
+}
+
+// A fall of a request pin that TXRTSCTRL enables.
+fn falls_enabled(image: &[u8], buffer: TxBuffer, high: bool) -> bool
+    requires { ⌜ length (now image) ≡ imageSize ⌝ }
+    ensures { λ r. ⌜ r ≡ fallsEnabled (coreOf (now (image .entry))) buffer high ⌝ }
+{
+    let number = registers::tx_number(buffer);
+    let place = PINS + (number as usize);
+    bits::has(image[TXRTSCTRL], number) & ((image[place] != 0) & !high)
+}
+
+// Such a fall requests the buffer as RTS does.
+fn request_by_pin(image: &mut [u8], buffer: TxBuffer, high: bool)
+    requires { ⌜ length (now image) ≡ imageSize ⌝ }
+    ensures { λ _. ⌜ Became (now (image .entry)) (now (image .exit)) (pinRequested (coreOf (now (image .entry))) buffer high) ⌝ }
+{
+    if falls_enabled(image, buffer, high) {
+        stores::request_one(image, buffer);
+        return;
+    }
+}
+
+// The level of a request pin.
+fn move_pin(image: &mut [u8], fields: Fields) -> u8
+    requires { ⌜ length (now image) ≡ imageSize ⌝ }
+    ensures { λ r. ⌜ r ≡ 0 ⌝ }
+    ensures { λ _. ⌜ Became (now (image .entry)) (now (image .exit)) (pinned (coreOf (now (image .entry))) (recordOf fields)) ⌝ }
+{
+    let buffer = pin_of(fields.field);
+    let high = fields.code != 0;
+    request_by_pin(image, buffer, high);
+    image::put_level(image, buffer, high);
+    0
+}
+
 fn hear_frame(image: &mut [u8], fields: Fields, wanted: bool) -> u16
     requires { ⌜ length (now image) ≡ imageSize ⌝ }
     ensures { λ r. ⌜ answerSetIn r ≡ answerSetOf wanted (happensBy Kind.FrameHeard (coreOf (now (image .entry))) (recordOf fields)) ⌝ }
@@ -308,6 +416,7 @@ fn happen(image: &mut [u8], kind: Kind, fields: Fields, wanted: bool) -> u16
         Kind::FrameEnds => end_flight(image, fields.field, wanted),
         Kind::ReceiveError => plain(hear_error(image, fields.field)),
         Kind::Recovery => plain(recover(image)),
+        Kind::PinLevel => plain(move_pin(image, fields)),
         Kind::Unknown => plain(0),
     }
 }
@@ -358,6 +467,7 @@ fn refuse_by(kind: Kind, control: Control, fields: Fields) -> u8
         Kind::FrameEnds => refuse_end(control, fields.field),
         Kind::ReceiveError => refuse_busy(control),
         Kind::Recovery => refuse_recovery(control),
+        Kind::PinLevel => ACCEPTED,
         Kind::Unknown => REFUSED_FIELD,
     }
 }
@@ -372,7 +482,7 @@ fn refuse(control: Control, fields: Fields) -> u8
     }
 }
 
-// One bus event: refused, it changes nothing. The set is worked out where it is asked for, else it is 0.
+// One event: refused, it changes nothing. The set is worked out where it is asked for, else it is 0.
 pub fn event(image: &mut [u8], fields: Fields, wanted: bool) -> Outcome
     ensures { λ r. ⌜ Answered (now (image .entry)) r (outcomeTold wanted (eventOf (coreOf (now (image .entry))) (recordOf fields))) notAnImage ⌝ }
     ensures { λ _. ⌜ Acted (now (image .entry)) (now (image .exit)) (eventOf (coreOf (now (image .entry))) (recordOf fields) .core) ⌝ }

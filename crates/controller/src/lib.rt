@@ -1,4 +1,4 @@
-// Bus events on the CAN side: a frame, bus idle, the end of an own frame, a receive error, recovery.
+// Events: on the CAN side a frame, bus idle, the end of an own frame, a receive error, recovery, the level of a request pin.
 mod events;
 mod sending;
 

@@ -191,7 +191,7 @@ fn with_flag(control: Control, bit: u8) -> Control
     next
 }
 
-fn tx_flag(buffer: TxBuffer) -> u8
+pub fn tx_flag(buffer: TxBuffer) -> u8
     ensures { λ r. ⌜ r ≡ txFlag buffer ⌝ }
 {
     match buffer {

@@ -1,28 +1,30 @@
 -- What the core is that an image stands for, after a change of its bytes. Assumes nothing.
 use mathlib.Core.Path.{_≡_, refl, ap, sym, subst, _∙_, fun-ext}
-use mathlib.Core.Bool.{Bool, true, false, cond, _&&_}
+use mathlib.Core.Bool.{Bool, true, false, cond, not, _&&_}
 use mathlib.Core.List.{List, [], _∷_, _++_}
 use Prim.Native.Nat.{ℕ, zero, suc, _+_, _*_, _/_, _%_, _-_, _<_, _≤_}
 use native.Mathlib.Omega.{arith}
 use native.Mathlib.Nat.{add-suc, zero-add}
-use lib.Dec.{eqb}
+use lib.Dec.{eqb, lit<}
 use lib.ListN.{length, getD, set, take, drop, replicate, length-set, length-drop}
 use lib.Seq.{take-take, length-take-le, length-front, drop-at, take-suc, append-snoc, getD-at, take-append-le, drop-append-le, getD-set-same, getD-set-other, take-set-le, take-set-lt, drop-set-lt, drop-set-add, getD-drop, sets, length-sets, sets-eq, drop-cons, set-at, drop-drop}
 use borrow.Author.Tests.{eqb-true, eqb-false, ne-eqb}
 use Rattle.registers.specs.declared.Mode.{Mode}
 use Rattle.registers.specs.declared.Mode.the-variants.{Normal, Sleep, Loopback, ListenOnly, Configuration}
+use Rattle.registers.specs.declared.TxBuffer.{TxBuffer}
 use Rattle.registers.specs.declared.TxBuffer.the-variants.{Txb0, Txb1, Txb2}
 use Rattle.registers.specs.declared.Flight.{Flight}
 use Rattle.registers.specs.declared.Flight.the-variants.{Idle, Of}
 use Rattle.registers.specs.declared.Request.{Request}
 use Rattle.registers.specs.declared.Request.the-variants.{Nothing, Wanted}
 use Rattle.registers.specs.declared.Control.{Control}
+use Rattle.registers.specs.declared.Pins.{Pins}
 use Rattle.registers.specs.declared.Core.{Core}
-use Rattle.registers.specs.State.{modeNumber, withControl, withConfig, withTxBytes, withRxBytes}
+use Rattle.registers.specs.State.{modeNumber, txNumber, withControl, withConfig, withTxBytes, withRxBytes, withLevel, withPins}
 use Rattle.registers.specs.Registers.{regionOf, firstControl, isKept, keptFrom, resetCore}
 use Rattle.registers.proofs.Kept.{kept-length, kept-take, kept-drop, kept-snoc}
 use Rattle.registers.specs.Modes.{requested, settled}
-use Rattle.image.specs.Image.{imageSize, selectAt, versionAt, version, isChip, modeOf, flightOf, flightNumber, requestNumber, decoded, controlOf, encoded, coreOf, Became, Acted, Answered}
+use Rattle.image.specs.Image.{imageSize, pinsAt, selectAt, versionAt, version, isChip, modeOf, flightOf, flightNumber, requestNumber, decoded, controlOf, encoded, pinsBy, pinsOf, levelByte, coreOf, Became, Acted, Answered}
 
 -- ---- the enums come back out of their bytes
 pub mode-back : (m : Mode) → modeOf (modeNumber m) ≡ m
@@ -67,6 +69,13 @@ slice-above n k m i v h =
     let g : k ≤ i - n = omega arith in
     rw (e, drop-set-add n m (i - n) v, take-set-le k (drop n m) (i - n) v g)
 
+-- ---- the levels of the pins are those of three bytes
+pub pins-away : (m : List ℕ) (i v : ℕ) → (pinsAt ≡ i → ⊥) → (144 ≡ i → ⊥) → (145 ≡ i → ⊥) → pinsOf (set m i v) ≡ pinsOf m
+pins-away m i v x y z = rw (getD-set-other m i 143 v 0 x, getD-set-other m i 144 v 0 y, getD-set-other m i 145 v 0 z)
+
+pins-below : (m : List ℕ) (i v : ℕ) → i < pinsAt → pinsOf (set m i v) ≡ pinsOf m
+pins-below m i v h = pins-away m i v (λ e. omega arith) (λ e. omega arith) (λ e. omega arith)
+
 -- ---- a byte below 128 is no control register
 low-control : (m : List ℕ) (i v : ℕ) → i < 128 → controlOf (set m i v) ≡ controlOf m
 unfolding decoded
@@ -78,20 +87,26 @@ low-control m i v h =
 
 module _ (m : List ℕ) (i v : ℕ) where
   pub config-set : i < 48 → coreOf (set m i v) ≡ withConfig (coreOf m) (set (take 48 m) i v)
-  config-set h = rw (take-set-lt 48 m i v h, drop-set-lt 48 m i v h, drop-set-lt 96 m i v (omega arith), low-control m i v (omega arith))
+  config-set h = rw (take-set-lt 48 m i v h, drop-set-lt 48 m i v h, drop-set-lt 96 m i v (omega arith), low-control m i v (omega arith), pins-below m i v (omega arith))
 
 module _ (m : List ℕ) (j v : ℕ) where
   pub tx-set : j < 48 → coreOf (set m (48 + j) v) ≡ withTxBytes (coreOf m) (set (take 48 (drop 48 m)) j v)
   tx-set h =
-      rw (take-set-le 48 m (48 + j) v (omega arith), drop-set-add 48 m j v, take-set-lt 48 (drop 48 m) j v h, drop-set-lt 96 m (48 + j) v (omega arith), low-control m (48 + j) v (omega arith))
+      rw (take-set-le 48 m (48 + j) v (omega arith), drop-set-add 48 m j v, take-set-lt 48 (drop 48 m) j v h, drop-set-lt 96 m (48 + j) v (omega arith), low-control m (48 + j) v (omega arith), pins-below m (48 + j) v (omega arith))
 
   pub rx-set : j < 32 → coreOf (set m (96 + j) v) ≡ withRxBytes (coreOf m) (set (take 32 (drop 96 m)) j v)
   rx-set h =
-      rw (take-set-le 48 m (96 + j) v (omega arith), slice-above 48 48 m (96 + j) v (omega arith), drop-set-add 96 m j v, take-set-lt 32 (drop 96 m) j v h, low-control m (96 + j) v (omega arith))
+      rw (take-set-le 48 m (96 + j) v (omega arith), slice-above 48 48 m (96 + j) v (omega arith), drop-set-add 96 m j v, take-set-lt 32 (drop 96 m) j v h, low-control m (96 + j) v (omega arith), pins-below m (96 + j) v (omega arith))
 
 -- ---- a byte from 128 on is none of config, tx and rx
-pub high-kept : (c : Control) (m : List ℕ) (i v : ℕ) → 128 ≤ i → withControl (coreOf (set m i v)) c ≡ withControl (coreOf m) c
-high-kept c m i v h = rw (take-set-le 48 m i v (omega arith), slice-above 48 48 m i v (omega arith), slice-above 96 32 m i v (omega arith))
+pub high-kept : (c : Control) (p : Pins) (m : List ℕ) (i v : ℕ) → 128 ≤ i
+    → withPins (withControl (coreOf (set m i v)) c) p ≡ withPins (withControl (coreOf m) c) p
+high-kept c p m i v h = rw (take-set-le 48 m i v (omega arith), slice-above 48 48 m i v (omega arith), slice-above 96 32 m i v (omega arith))
+
+-- .. and one below the pins none of them either
+control-kept : (c : Control) (m : List ℕ) (i v : ℕ) → 128 ≤ i → i < pinsAt → withControl (coreOf (set m i v)) c ≡ withControl (coreOf m) c
+control-kept c m i v h q =
+    ap (λ (p : Pins). withPins (withControl (coreOf (set m i v)) c) p) (pins-below m i v q) ∙ high-kept c (pinsOf m) m i v h
 
 -- ---- several control registers changed in place: b are the bytes now, and the others are as in m
 pub record Marked (m n : List ℕ) (b : ℕ → ℕ) : Type 0 where
@@ -103,13 +118,13 @@ pub record Marked (m n : List ℕ) (b : ℕ → ℕ) : Type 0 where
 pub unmarked : (m : List ℕ) → length m ≡ imageSize → Marked m m (bytes m)
 unmarked m e = record { size = e; regs = refl; low = λ c. refl; rest = refl }
 
-pub mark-one : {m n : List ℕ} {b : ℕ → ℕ} → Marked m n b → (j v : ℕ) → 128 ≤ j → j < selectAt → Marked m (set n j v) (changed b j v)
+pub mark-one : {m n : List ℕ} {b : ℕ → ℕ} → Marked m n b → (j v : ℕ) → 128 ≤ j → j < pinsAt → Marked m (set n j v) (changed b j v)
 mark-one {m} {n} {b} w j v p q =
     record {
       size = length-set n j v ∙ w .size;
       regs = bytes-set n j v (omega (arith, w .size)) ∙ ap (λ (f : ℕ → ℕ). changed f j v) (w .regs);
-      low = λ c. high-kept c n j v p ∙ w .low c;
-      rest = drop-set-lt selectAt n j v q ∙ w .rest;
+      low = λ c. control-kept c n j v p q ∙ w .low c;
+      rest = drop-set-lt selectAt n j v (omega arith) ∙ w .rest;
     }
 
 pub marked : {m n : List ℕ} {b : ℕ → ℕ} → Marked m n b → (c : Control) → decoded b ≡ c → Became m n (withControl (coreOf m) c)
@@ -137,6 +152,11 @@ pub drop-past : (m : List ℕ) (n i : ℕ) (vs : List ℕ) → i + length vs ≤
 drop-past m n i [] h = refl
 drop-past m n i (v ∷ vs) h = drop-past (set m i v) n (suc i) vs (omega arith) ∙ drop-set-lt n m i v (omega arith)
 
+-- .. of which none is a pin
+put-kept : (c : Control) (m : List ℕ) (i : ℕ) (vs : List ℕ) → 128 ≤ i → i + length vs ≤ pinsAt → withControl (coreOf (sets m i vs)) c ≡ withControl (coreOf m) c
+put-kept c m i [] h q = refl
+put-kept c m i (v ∷ vs) h q = put-kept c (set m i v) (suc i) vs (omega arith) (omega arith) ∙ control-kept c m i v h (omega arith)
+
 -- the control registers by the bytes from 128 on
 from-there : (m : List ℕ) → controlOf m ≡ decoded (λ i. getD (drop 128 m) (i - 128) 0)
 unfolding decoded
@@ -158,7 +178,7 @@ put-core m c e =
       size = length-sets m 128 (encoded c) ∙ e;
       core =
           ap (λ (d : Control). withControl (coreOf (sets m 128 (encoded c))) d) back
-          ∙ sets-kept (λ m. withControl (coreOf m) c) 128 (high-kept c) m 128 (encoded c) (omega arith);
+          ∙ put-kept c m 128 (encoded c) (omega arith) (omega (arith, room c));
       rest = drop-past m selectAt 128 (encoded c) (omega (arith, room c));
     }
   where
@@ -166,6 +186,47 @@ put-core m c e =
     back =
         from-there (sets m 128 (encoded c))
         ∙ rw (drop-sets m 128 0 (encoded c), sets-eq (encoded c) (drop 128 m) 0 (omega (arith, room c, length-drop 128 m))) (control-back c _)
+
+-- ---- the level of a pin put in
+level-back : (high : Bool) → not (eqb (levelByte high) 0) ≡ high
+level-back true = refl
+level-back false = refl
+
+pins-set : (m : List ℕ) (b : TxBuffer) (high : Bool) → length m ≡ imageSize
+    → pinsOf (set m (pinsAt + txNumber b) (levelByte high)) ≡ withLevel (pinsOf m) b high
+pins-set m Txb0 high e =
+    rw (getD-set-same m 143 (levelByte high) 0 (omega (arith, e)), getD-set-other m 143 144 (levelByte high) 0 (λ z. omega arith), getD-set-other m 143 145 (levelByte high) 0 (λ z. omega arith), level-back high)
+pins-set m Txb1 high e =
+    rw (getD-set-same m 144 (levelByte high) 0 (omega (arith, e)), getD-set-other m 144 143 (levelByte high) 0 (λ z. omega arith), getD-set-other m 144 145 (levelByte high) 0 (λ z. omega arith), level-back high)
+pins-set m Txb2 high e =
+    rw (getD-set-same m 145 (levelByte high) 0 (omega (arith, e)), getD-set-other m 145 143 (levelByte high) 0 (λ z. omega arith), getD-set-other m 145 144 (levelByte high) 0 (λ z. omega arith), level-back high)
+
+pub tx-below : (b : TxBuffer) → txNumber b < 3
+tx-below Txb0 = lit< tt
+tx-below Txb1 = lit< tt
+tx-below Txb2 = lit< tt
+
+-- a byte behind the control registers is none of them
+pub behind-control : (m : List ℕ) (i v : ℕ) → 142 < i → controlOf (set m i v) ≡ controlOf m
+unfolding decoded
+behind-control m i v h = simp (away 128 (omega arith), away 129 (omega arith), away 130 (omega arith), away 131 (omega arith), away 132 (omega arith), away 133 (omega arith), away 134 (omega arith), away 135 (omega arith), away 136 (omega arith), away 137 (omega arith), away 138 (omega arith), away 139 (omega arith), away 140 (omega arith), away 141 (omega arith), away 142 (omega arith))
+  where
+    away : (j : ℕ) → j < 143 → getD (set m i v) j 0 ≡ getD m j 0
+    away j p = getD-set-other m i j v 0 (λ e. omega arith)
+
+pub pin-put : (m : List ℕ) (b : TxBuffer) (high : Bool) → length m ≡ imageSize
+    → Became m (set m (pinsAt + txNumber b) (levelByte high)) (withPins (coreOf m) (withLevel (pinsOf m) b high))
+pin-put m b high e =
+    let i : ℕ = pinsAt + txNumber b in
+    let v : ℕ = levelByte high in
+    record {
+      size = length-set m i v ∙ e;
+      core =
+          ap (λ (c : Control). withControl (coreOf (set m i v)) c) (behind-control m i v (omega arith))
+          ∙ ap (λ (p : Pins). withPins (withControl (coreOf (set m i v)) (controlOf m)) p) (pins-set m b high e)
+          ∙ high-kept (controlOf m) (withLevel (pinsOf m) b high) m i v (omega arith);
+      rest = drop-set-lt selectAt m i v (omega (arith, tx-below b));
+    }
 
 -- ---- one change after another: what the second does to the core that the first left
 pub followed : {m n p : List ℕ} {k : Core} (f : Core → Core) → Became m n k → Became n p (f (coreOf n)) → Became m p (f k)
@@ -177,6 +238,22 @@ acted e w = record { image = λ _. w; other = λ h. absurd (h e) }
 
 pub passed : {m : List ℕ} {k : Core} → (length m ≡ imageSize → ⊥) → Acted m m k
 passed h = record { image = λ e. absurd (h e); other = λ _. refl }
+
+-- the three levels put in one after the other
+pub pins-in : {m n p q : List ℕ} (x y z : Bool) → Acted m n (withPins (coreOf m) (withLevel (pinsOf m) Txb0 x))
+    → Acted n p (withPins (coreOf n) (withLevel (pinsOf n) Txb1 y)) → Acted p q (withPins (coreOf p) (withLevel (pinsOf p) Txb2 z))
+    → Acted m q (withPins (coreOf m) (record { tx0rts = x; tx1rts = y; tx2rts = z }))
+pins-in {m} {n} {p} {q} x y z a b c =
+    record {
+      image = λ e.
+          let one = a .image e in
+          let two = followed (λ (k : Core). withPins k (withLevel (k .pins) Txb1 y)) one (b .image (one .size)) in
+          followed (λ (k : Core). withPins k (withLevel (k .pins) Txb2 z)) two (c .image (two .size));
+      other = λ h.
+          let one : n ≡ m = a .other h in
+          let two : p ≡ m = b .other (λ e. h (sym (ap length one) ∙ e)) ∙ one in
+          c .other (λ e. h (sym (ap length two) ∙ e)) ∙ two;
+    }
 
 pub answered : {A : Type 0} {m : List ℕ} {r a o : A} → length m ≡ imageSize → r ≡ a → Answered m r a o
 answered e p = record { image = λ _. p; other = λ h. absurd (h e) }
@@ -236,11 +313,13 @@ reset-core m n p c e q f w =
     let k : List ℕ = keptFrom 0 (take 128 m) in
     let size : length (resetTo 128 m) ≡ imageSize = length-front m k 128 (kept-length 0 (take 128 m)) ∙ e in
     let behind : drop 128 (resetTo 128 m) ≡ drop 128 m = drop-at k (drop 128 m) 128 (front 128 m (omega (arith, e))) in
+    let pin : (i : ℕ) → getD (resetTo 128 m) (128 + i) 0 ≡ getD m (128 + i) 0 =
+    λ i. sym (getD-drop 128 (resetTo 128 m) i 0) ∙ ap (λ (l : List ℕ). getD l i 0) behind ∙ getD-drop 128 m i 0 in
     let b : Became n p (withControl (coreOf n) c) = w .image (ap length q ∙ size) in
     record {
       size = b .size;
-      core = b .core ∙ rw (q, f, reset-part m e 48 0 (omega arith), reset-part m e 48 48 (omega arith), reset-part m e 32 96 (omega arith)) refl;
-      rest = b .rest ∙ ap (drop selectAt) q ∙ sym (drop-drop 15 128 (resetTo 128 m)) ∙ ap (drop 15) behind ∙ drop-drop 15 128 m;
+      core = b .core ∙ rw (q, f, reset-part m e 48 0 (omega arith), reset-part m e 48 48 (omega arith), reset-part m e 32 96 (omega arith), pin 15, pin 16, pin 17) refl;
+      rest = b .rest ∙ ap (drop selectAt) q ∙ sym (drop-drop 18 128 (resetTo 128 m)) ∙ ap (drop 18) behind ∙ drop-drop 18 128 m;
     }
 
 -- ---- a request for nothing is not carried out
@@ -278,8 +357,8 @@ unfolding isChip
 chip-size m e = eqb-true (length m) imageSize (both (eqb (length m) imageSize) (eqb (getD m versionAt 0) version) e .0)
 
 -- an image with the spare bytes of a chip, the version among them, is a chip
-pub chip-again : (m n : List ℕ) → length n ≡ imageSize → drop 146 n ≡ drop 146 m → isChip m ≡ true → isChip n ≡ true
+pub chip-again : (m n : List ℕ) → length n ≡ imageSize → drop 149 n ≡ drop 149 m → isChip m ≡ true → isChip n ≡ true
 unfolding isChip
 chip-again m n size spare e =
-    let same : getD n versionAt 0 ≡ getD m versionAt 0 = sym (getD-drop 146 n 5 0) ∙ ap (λ (l : List ℕ). getD l 5 0) spare ∙ getD-drop 146 m 5 0 in
+    let same : getD n versionAt 0 ≡ getD m versionAt 0 = sym (getD-drop 149 n 2 0) ∙ ap (λ (l : List ℕ). getD l 2 0) spare ∙ getD-drop 149 m 2 0 in
     rw (same, size, both (eqb (length m) imageSize) (eqb (getD m versionAt 0) version) e .1)

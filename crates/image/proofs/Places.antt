@@ -11,7 +11,7 @@ use borrow.Author.Tests.{ne-eqb}
 use Rattle.bits.proofs.All.{every, agree}
 use Rattle.registers.proofs.Regions.{inside-of, message-above, message-below}
 use Rattle.registers.specs.declared.Region.{Region}
-use Rattle.registers.specs.declared.Region.the-variants.{Filters, Masks, Configured, Bfpctrl, Tec, Rec, Caninte, Canintf, Eflg, Canstat, Canctrl, TxCtrl, TxMessage, RxCtrl, RxMessage}
+use Rattle.registers.specs.declared.Region.the-variants.{Filters, Masks, Configured, Bfpctrl, Txrtsctrl, Tec, Rec, Caninte, Canintf, Eflg, Canstat, Canctrl, TxCtrl, TxMessage, RxCtrl, RxMessage}
 use Rattle.registers.specs.declared.TxBuffer.the-variants.{Txb0, Txb1, Txb2}
 use Rattle.registers.specs.declared.RxBuffer.the-variants.{Rxb0, Rxb1}
 use Rattle.registers.specs.Registers.{regionOf, holdsIn}
@@ -53,6 +53,7 @@ holds-place m a h = go (regionOf a) refl
     go Masks e p = config-byte m a (ltb→lt a 48 (inside-of a Masks h e))
     go Configured e p = config-byte m a (ltb→lt a 48 (inside-of a Configured h e))
     go Bfpctrl e p = config-byte m a (ltb→lt a 48 (inside-of a Bfpctrl h e))
+    go Txrtsctrl e p = cc
     go Tec e p = cc
     go Rec e p = refl
     go Caninte e p = refl
@@ -69,12 +70,12 @@ holds-place m a h = go (regionOf a) refl
     go RxMessage e p = rx-byte m a (ltb→lt 95 a (inside-of a RxMessage h e)) h
 
 -- ---- what the code tests
--- of the derived ones CANSTAT and EFLG are told apart, so that TEC is left
-pub derived-last : (a : ℕ) → a < 128 → isDerived (regionOf a) ≡ true → (a % 16 ≡ 14 → ⊥) → (a ≡ 45 → ⊥) → a ≡ 28
+-- of the derived ones CANSTAT, EFLG and TEC are told apart, so that TXRTSCTRL is left
+pub derived-last : (a : ℕ) → a < 128 → isDerived (regionOf a) ≡ true → (a % 16 ≡ 14 → ⊥) → (a ≡ 45 → ⊥) → (a ≡ 28 → ⊥) → a ≡ 13
 unfolding regionOf
-derived-last a h e p q =
-    eqb→eq a 28
-    (rw (e, ne-eqb (a % 16) 14 p, ne-eqb a 45 q) at (every (λ a. not (isDerived (regionOf a)) || eqb (a % 16) 14 || eqb a 45 || eqb a 28) 128 tt a h))
+derived-last a h e p q r =
+    eqb→eq a 13
+    (rw (e, ne-eqb (a % 16) 14 p, ne-eqb a 45 q, ne-eqb a 28 r) at (every (λ a. not (isDerived (regionOf a)) || eqb (a % 16) 14 || eqb a 45 || eqb a 28 || eqb a 13) 128 tt a h))
 
 -- the place of an address by the code's choices
 abbrev placeBy : ℕ → ℕ

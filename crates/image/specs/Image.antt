@@ -1,7 +1,7 @@
--- The chip as bytes at fixed places: 00h to 7Fh at their addresses, behind them the control registers, one to a byte and TEC in two, then
--- the select line. Any bytes of this length stand for a core: a decoder has an answer for every byte.
+-- The chip as bytes at fixed places: 00h to 7Fh at their addresses, behind them the control registers, one to a byte and TEC in two, the
+-- levels of the request pins, then the select line. Any bytes of this length stand for a core: a decoder has an answer for every byte.
 use Prim.Native.Nat.{ℕ, _+_, _*_, _/_, _%_}
-use mathlib.Core.Bool.{Bool, true, false, cond, _&&_}
+use mathlib.Core.Bool.{Bool, true, false, cond, not, _&&_}
 use mathlib.Core.Path.{_≡_}
 use mathlib.Core.List.{List, [], _∷_, _++_}
 use lib.Dec.{eqb}
@@ -14,9 +14,10 @@ use Rattle.registers.specs.declared.Flight.the-variants.{Idle, Of}
 use Rattle.registers.specs.declared.Request.{Request}
 use Rattle.registers.specs.declared.Request.the-variants.{Nothing, Wanted}
 use Rattle.registers.specs.declared.Control.{Control}
+use Rattle.registers.specs.declared.Pins.{Pins}
 use Rattle.registers.specs.declared.Core.{Core}
 use Rattle.registers.specs.declared.Region.{Region}
-use Rattle.registers.specs.declared.Region.the-variants.{Filters, Masks, Configured, Bfpctrl, Tec, Rec, Caninte, Canintf, Eflg, Canstat, Canctrl, TxCtrl, TxMessage, RxCtrl, RxMessage}
+use Rattle.registers.specs.declared.Region.the-variants.{Filters, Masks, Configured, Bfpctrl, Txrtsctrl, Tec, Rec, Caninte, Canintf, Eflg, Canstat, Canctrl, TxCtrl, TxMessage, RxCtrl, RxMessage}
 use Rattle.registers.specs.State.{modeNumber, txNumber, rxFlag}
 use Rattle.registers.specs.Registers.{regionOf, firstControl}
 use Rattle.registers.specs.Modes.{requested}
@@ -25,16 +26,20 @@ use Rattle.registers.specs.Modes.{requested}
 abbrev pub imageSize : ℕ
 imageSize = 152
 
+-- where the level of TX0RTS lies, with those of TX1RTS and TX2RTS behind it
+abbrev pub pinsAt : ℕ
+pinsAt = 143
+
 -- where the select line lies, with the open instruction, its address and its mask
 abbrev pub selectAt : ℕ
-selectAt = 143
+selectAt = 146
 
 -- where the version lies that a chip bears which a C program holds, and the version of this layout
 abbrev pub versionAt : ℕ
 versionAt = 151
 
 abbrev pub version : ℕ
-version = 1
+version = 2
 
 -- bytes are a chip where they are an image of this version
 unfoldable pub isChip : List ℕ → Bool
@@ -82,20 +87,32 @@ encoded c =
     ∷ c .counters .tec % 256 ∷ c .counters .rec ∷ c .counters .tec / 256
     ∷ modeNumber (c .state .mode) ∷ flightNumber (c .state .flight) ∷ requestNumber (c .state .request) ∷ []
 
--- ---- the bytes at power-on: zeros for 00h to 7Fh, the control registers, the select line high and the spare bytes 0, the version
+-- ---- the levels of the pins: a byte is 0 for low, any other for high
+abbrev pub pinsBy : ℕ → ℕ → ℕ → Pins
+pinsBy x y z = record { tx0rts = not (eqb x 0); tx1rts = not (eqb y 0); tx2rts = not (eqb z 0) }
+
+abbrev pub pinsOf : List ℕ → Pins
+pinsOf m = pinsBy (getD m 143 0) (getD m 144 0) (getD m 145 0)
+
+abbrev pub levelByte : Bool → ℕ
+levelByte high = cond high 1 0
+
+-- ---- the bytes at power-on: zeros for 00h to 7Fh, the control registers, the pins high, the select line high and the spare bytes 0,
+-- the version
 unfoldable pub powerOnBytes : List ℕ
-powerOnBytes = replicate 128 0 ++ (encoded firstControl ++ (replicate 8 0 ++ (version ∷ [])))
+powerOnBytes = replicate 128 0 ++ (encoded firstControl ++ (replicate 3 1 ++ (replicate 5 0 ++ (version ∷ []))))
 
 -- ---- the core that an image stands for
 abbrev pub coreOf : List ℕ → Core
-coreOf m = record { control = controlOf m; config = take 48 m; tx = take 48 (drop 48 m); rx = take 32 (drop 96 m) }
+coreOf m = record { control = controlOf m; config = take 48 m; tx = take 48 (drop 48 m); rx = take 32 (drop 96 m); pins = pinsOf m }
 
--- ---- where the byte of an address lies; CANSTAT, EFLG and TEC have none that is read as it stands
+-- ---- where the byte of an address lies; CANSTAT, EFLG, TEC and TXRTSCTRL have none that is read as it stands
 abbrev pub isDerived : Region → Bool
 isDerived Filters = false
 isDerived Masks = false
 isDerived Configured = false
 isDerived Bfpctrl = false
+isDerived Txrtsctrl = true
 isDerived Tec = true
 isDerived Rec = false
 isDerived Caninte = false
@@ -113,6 +130,7 @@ placeIn Filters a = a
 placeIn Masks a = a
 placeIn Configured a = a
 placeIn Bfpctrl a = a
+placeIn Txrtsctrl a = a
 placeIn Tec a = 137
 placeIn Rec a = 138
 placeIn Caninte a = 129

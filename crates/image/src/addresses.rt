@@ -1,19 +1,37 @@
 // What an address holds and what it reads.
 ghost use mathlib.Core.Path.{_≡_};
-ghost use mathlib.Core.Bool.{true};
+ghost use mathlib.Core.Bool.{true, cond, not, _&&_};
 ghost use Prim.Native.Nat.{_<_, min};
 ghost use lib.Bits.{bitAnd, bitOr};
 ghost use lib.ListN.{length};
 ghost use Rattle.registers.specs.Errors.{errorFlags};
-ghost use Rattle.registers.specs.Registers.{regionOf, canstatOf, holdsIn, holds, isProfile, reads};
+ghost use Rattle.registers.specs.Registers.{
+  regionOf,
+  canstatOf,
+  txrtsctrlOf,
+  holdsIn,
+  holds,
+  isProfile,
+  reads,
+};
 ghost use Rattle.image.specs.Image.{imageSize, controlOf, coreOf, Answered, isDerived, placeOf};
 use crate::MODE;
+use crate::PINS;
 use crate::SIZE;
+use crate::TXRTSCTRL;
 use crate::control::control_of;
 use crate::control::mode_of;
+use registers::B0RTS;
+use registers::B1RTS;
+use registers::B1RTSM;
+use registers::B2RTS;
+use registers::B2RTSM;
 
 // RX1OVR and RX0OVR.
 const OVERFLOW: u8 = 192;
+
+// TXRTSCTRL but for the levels of the pins, B2RTS to B0RTS.
+const STORED: u8 = 199;
 
 // TEC as it reads.
 fn tec(image: &[u8]) -> u8
@@ -43,12 +61,31 @@ fn canstat(image: &[u8]) -> u8
     registers::canstat(control_of(image))
 }
 
-// CANSTAT, EFLG and TEC are worked out; every other address has a byte of its own.
+// The level of a pin in its bit of TXRTSCTRL, where the pin is not enabled.
+fn shown(high: bool, enabled: bool, bit: u8) -> u8
+    ensures { λ r. ⌜ r ≡ cond (high && not enabled) bit 0 ⌝ }
+{
+    bits::choose(high & !enabled, bit, 0)
+}
+
+// TXRTSCTRL: what is stored, and the levels of the pins that it does not enable.
+fn txrtsctrl(image: &[u8]) -> u8
+    requires { ⌜ length (now image) ≡ imageSize ⌝ }
+    ensures { λ r. ⌜ r ≡ txrtsctrlOf (coreOf (now (image .entry))) ⌝ }
+{
+    let enables = image[TXRTSCTRL];
+    let first = shown(image[PINS] != 0, enables % 2 == 1, B0RTS);
+    let second = shown(image[PINS + 1] != 0, enables / B1RTSM % 2 == 1, B1RTS);
+    let third = shown(image[PINS + 2] != 0, enables / B2RTSM % 2 == 1, B2RTS);
+    (enables & STORED) | (first | (second | third))
+}
+
+// CANSTAT, EFLG, TEC and TXRTSCTRL are worked out; every other address has a byte of its own.
 fn is_derived(at: u8) -> bool
     requires { ⌜ at < 128 ⌝ }
     ensures { λ r. ⌜ r ≡ isDerived (regionOf at) ⌝ }
 {
-    (at % 16 == 14) | (at == 0x2D) | (at == 0x1C)
+    (at % 16 == 14) | (at == 0x2D) | (at == 0x1C) | (at == 0x0D)
 }
 
 fn derived(image: &[u8], at: u8) -> u8
@@ -61,7 +98,10 @@ fn derived(image: &[u8], at: u8) -> u8
     if at == 0x2D {
         return eflg(image);
     }
-    tec(image)
+    if at == 0x1C {
+        return tec(image);
+    }
+    txrtsctrl(image)
 }
 
 // Where the byte of an address lies. Addresses follow no pattern, so this is done without branches.

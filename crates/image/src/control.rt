@@ -3,8 +3,15 @@ ghost use mathlib.Core.Path.{_≡_};
 ghost use mathlib.Core.List.{_++_};
 ghost use Prim.Native.Nat.{_+_, _*_, _/_, _<_};
 ghost use lib.ListN.{length, take, drop};
-ghost use Rattle.registers.specs.State.{withControl};
-ghost use Rattle.registers.specs.Registers.{regionOf, firstControl, isKept, keptFrom, resetCore};
+ghost use Rattle.registers.specs.State.{withControl, withLevel, withPins};
+ghost use Rattle.registers.specs.Registers.{
+  regionOf,
+  firstControl,
+  allHigh,
+  isKept,
+  keptFrom,
+  resetCore,
+};
 ghost use Rattle.registers.specs.Modes.{settled};
 ghost use Rattle.image.specs.Image.{
   imageSize,
@@ -13,6 +20,8 @@ ghost use Rattle.image.specs.Image.{
   flightNumber,
   requestNumber,
   controlOf,
+  pinsOf,
+  levelByte,
   coreOf,
   isChip,
   powerOnBytes,
@@ -25,6 +34,7 @@ use crate::CANINTF;
 use crate::EFLG;
 use crate::FLIGHT;
 use crate::MODE;
+use crate::PINS;
 use crate::REC;
 use crate::REQUEST;
 use crate::RXB0CTRL;
@@ -41,6 +51,7 @@ use registers::Counters;
 use registers::Flags;
 use registers::Flight;
 use registers::Mode;
+use registers::Pins;
 use registers::Request;
 use registers::RxControl;
 use registers::State;
@@ -51,7 +62,7 @@ use registers::TxControl;
 const NO_REQUEST: u8 = 7;
 
 // The version of this layout.
-const THIS_VERSION: u8 = 1;
+const THIS_VERSION: u8 = 2;
 
 pub fn mode_of(number: u8) -> Mode
     ensures { λ r. ⌜ r ≡ modeOf number ⌝ }
@@ -169,6 +180,50 @@ pub fn put_control(image: &mut [u8], control: Control)
     image[REQUEST] = request_number(request);
 }
 
+// The levels of the request pins; for other bytes those of power-on.
+pub fn pins_of(image: &[u8]) -> Pins
+    ensures { λ r. ⌜ Answered (now (image .entry)) r (pinsOf (now (image .entry))) allHigh ⌝ }
+{
+    if image.len() != SIZE {
+        return Pins {
+            tx0rts: true,
+            tx1rts: true,
+            tx2rts: true,
+        };
+    }
+    Pins {
+        tx0rts: image[PINS] != 0,
+        tx1rts: image[PINS + 1] != 0,
+        tx2rts: image[PINS + 2] != 0,
+    }
+}
+
+fn level_byte(high: bool) -> u8
+    ensures { λ r. ⌜ r ≡ levelByte high ⌝ }
+{
+    if high { 1 } else { 0 }
+}
+
+// The level of a buffer's request pin.
+pub fn put_level(image: &mut [u8], buffer: TxBuffer, high: bool)
+    ensures { λ _. ⌜ Acted (now (image .entry)) (now (image .exit)) (withPins (coreOf (now (image .entry))) (withLevel (pinsOf (now (image .entry))) buffer high)) ⌝ }
+{
+    if image.len() != SIZE {
+        return;
+    }
+    let place = PINS + (registers::tx_number(buffer) as usize);
+    image[place] = level_byte(high);
+}
+
+// The levels of the three.
+pub fn put_pins(image: &mut [u8], pins: Pins)
+    ensures { λ _. ⌜ Acted (now (image .entry)) (now (image .exit)) (withPins (coreOf (now (image .entry))) pins) ⌝ }
+{
+    put_level(image, TxBuffer::Txb0, pins.tx0rts);
+    put_level(image, TxBuffer::Txb1, pins.tx1rts);
+    put_level(image, TxBuffer::Txb2, pins.tx2rts);
+}
+
 // A mode request is carried out where it can be: the last act of each accepted step.
 pub fn settle(image: &mut [u8])
     ensures { λ _. ⌜ Acted (now (image .entry)) (now (image .exit)) (withControl (coreOf (now (image .entry))) (settled (controlOf (now (image .entry))))) ⌝ }
@@ -226,7 +281,7 @@ pub fn reset(image: &mut [u8])
     put_control(image, registers::first_control());
 }
 
-// Power-on, with the select line high.
+// Power-on, with the request pins and the select line high.
 pub fn power_on() -> [u8; SIZE]
     ensures { λ r. ⌜ r ≡ powerOnBytes ⌝ }
 {
@@ -235,6 +290,9 @@ pub fn power_on() -> [u8; SIZE]
     image[MODE] = 4;
     image[FLIGHT] = 3;
     image[REQUEST] = NO_REQUEST;
+    image[PINS] = 1;
+    image[PINS + 1] = 1;
+    image[PINS + 2] = 1;
     image[VERSION] = THIS_VERSION;
     image
 }

@@ -9,15 +9,20 @@ pub use control::control_of;
 pub use control::flight_of;
 pub use control::is_chip;
 pub use control::mode_of;
+pub use control::pins_of;
 pub use control::power_on;
 pub use control::put_control;
+pub use control::put_level;
+pub use control::put_pins;
 pub use control::reset;
 pub use control::settle;
 pub use control::settle_if_asked;
 
 pub const SIZE: usize = 152;
 
-// The bytes of 00h to 7Fh lie at their addresses. Behind them the control registers.
+// The bytes of 00h to 7Fh lie at their addresses, TXRTSCTRL with its bits 0 to 2. Behind them the control registers.
+pub const TXRTSCTRL: usize = 13;
+
 pub const CANCTRL: usize = 128;
 
 pub const CANINTE: usize = 129;
@@ -52,12 +57,15 @@ pub const FLIGHT: usize = 141;
 // The mode wanted, or 7.
 pub const REQUEST: usize = 142;
 
+// The levels of TX0RTS, TX1RTS and TX2RTS: 0 is low.
+pub const PINS: usize = 143;
+
 // The select line with the open instruction, its address and its mask. The bytes behind them are spare,
 // but the last.
-pub const SELECT: usize = 143;
+pub const SELECT: usize = 146;
 
-pub const ADDRESS: usize = 144;
+pub const ADDRESS: usize = 147;
 
-pub const MASK: usize = 145;
+pub const MASK: usize = 148;
 
 pub const VERSION: usize = 151;

@@ -10,7 +10,7 @@ use lib.Seq.{getD-set-other}
 use borrow.Author.Tests.{eqb-false, not-true}
 use Rattle.bits.specs.Bit.{hasBit, merged}
 use Rattle.records.specs.declared.Kind.{Kind}
-use Rattle.records.specs.declared.Kind.the-variants.{SelectLow, Exchange, SelectHigh, FrameHeard, BusIdle, FrameEnds, ReceiveError, Recovery, Unknown}
+use Rattle.records.specs.declared.Kind.the-variants.{SelectLow, Exchange, SelectHigh, FrameHeard, BusIdle, FrameEnds, ReceiveError, Recovery, PinLevel, Unknown}
 use Rattle.records.specs.declared.Frame.{Frame}
 use Rattle.records.specs.Records.{accepted, byteAt, kindOf, frameOf}
 use Rattle.registers.specs.declared.Mode.{Mode}
@@ -19,17 +19,17 @@ use Rattle.registers.specs.declared.Flight.{Flight}
 use Rattle.registers.specs.declared.Flight.the-variants.{Idle, Of}
 use Rattle.registers.specs.declared.TxBuffer.{TxBuffer}
 use Rattle.registers.specs.declared.Core.{Core}
-use Rattle.registers.specs.State.{WAKIF, TXREQ, isLoopback, txNumber, sameTx, inFlight, txControl, withControl, withTxBytes}
+use Rattle.registers.specs.State.{WAKIF, TXREQ, isLoopback, txNumber, sameTx, inFlight, txControl, withControl, withTxBytes, withLevel, rtsBit, withPins}
 use Rattle.registers.specs.Errors.{isBusOff}
 use Rattle.registers.specs.Registers.{writableOf}
-use Rattle.stores.specs.Store.{stored}
+use Rattle.stores.specs.Store.{stored, requestedToSend}
 use Rattle.registers.specs.State.{updated}
 use Rattle.receiving.specs.declared.Reception.the-variants.{Woke}
 use Rattle.receiving.specs.Receiving.{Received, receivedOf}
 use Rattle.controller.specs.declared.End.{End}
 use Rattle.controller.specs.declared.End.the-variants.{Sent, LostArbitration, Failed}
 use Rattle.controller.specs.Sending.{endOf, sentBy, frameAt, frameSent}
-use Rattle.controller.specs.Events.{Happened, Told, ignored, goodFrame, wokenControl, answered, heardIn, heardOf, endsIn, endsBy, ended, idled, happensBy, eventRefusal, toldOf, refusedBy, eventOf}
+use Rattle.controller.specs.Events.{Happened, Told, ignored, goodFrame, wokenControl, answered, plain, heardIn, heardOf, endsIn, endsBy, ended, idled, pinOf, isHighLevel, fallsEnabled, pinned, happensBy, eventRefusal, toldOf, refusedBy, eventOf}
 use Rattle.spi.specs.declared.Act.the-variants.{Store}
 use Rattle.spi.specs.Instructions.{acted}
 use Rattle.mcp2515.specs.Moments.{isFree}
@@ -76,7 +76,7 @@ module _ (t : List ℕ) (k : Core) where
 
   module _ (same : (b : TxBuffer) → k .control .state .flight ≡ Of b → frameSent t b ≡ frameSent (k .tx) b) where
     happens-with : (q : Kind) (r : List ℕ) → happensBy q (withTxBytes k t) r ≡ happenedWith t (happensBy q k r)
-    unfolding heardOf idled ended
+    unfolding heardOf idled ended pinned
     happens-with SelectLow r = refl
     happens-with Exchange r = refl
     happens-with SelectHigh r = refl
@@ -85,6 +85,11 @@ module _ (t : List ℕ) (k : Core) where
     happens-with FrameEnds r = flight-with (k .control .state .flight) (endOf (byteAt r 1)) same
     happens-with ReceiveError r = refl
     happens-with Recovery r = refl
+    happens-with PinLevel r =
+        let b : TxBuffer = pinOf (byteAt r 1) in
+        let high : Bool = isHighLevel (byteAt r 2) in
+        ap (λ (j : Core). plain 0 (withPins j (withLevel (k .pins) b high)))
+        (cond-ap (λ (j : Core). withTxBytes j t) (fallsEnabled k b high) (withControl k (requestedToSend (k .control) (rtsBit b))) k)
     happens-with Unknown r = refl
 
     -- an event does not see bytes that are not in flight

@@ -8,11 +8,11 @@ use lib.ListN.{getD, replicate}
 use Rattle.records.specs.Records.{kindOf, frameOf, soundOf}
 use Rattle.registers.specs.Errors.{errorFlags, movedTo}
 use Rattle.registers.specs.Modes.{entered, freeToChange, settled}
-use Rattle.registers.specs.Registers.{regionOf, writableOf, powerOnCore, holds, reads}
-use Rattle.stores.specs.Store.{txStored, requestedOf, aborted, canctrlStored, stored}
+use Rattle.registers.specs.Registers.{regionOf, writableOf, powerOnCore, allHigh, holds, reads}
+use Rattle.stores.specs.Store.{txStored, requestedOf, requestedToSend, aborted, canctrlStored, stored}
 use Rattle.receiving.specs.Receiving.{matches, setOf, matchedOf, lowestFrom, hitFor, verdictOf, matchOf, bytesStored, receivedOf}
 use Rattle.controller.specs.Sending.{bestOf, choiceOf}
-use Rattle.controller.specs.Events.{heardOf, idled, errorHeard, eventRefusal, eventOf}
+use Rattle.controller.specs.Events.{heardOf, idled, errorHeard, pinned, eventRefusal, eventOf}
 use Rattle.registers.specs.declared.Flags.{Flags}
 use Rattle.registers.specs.declared.Mode.the-variants.{Normal}
 use Rattle.registers.specs.declared.Flight.the-variants.{Idle}
@@ -22,7 +22,7 @@ use Rattle.mcp2515.specs.declared.Chip.{Chip}
 use Rattle.spi.specs.Instructions.{bufferCommand, commandOf}
 use Rattle.records.specs.declared.Outcome.{Outcome}
 use Rattle.mcp2515.specs.Step.{powerOn, asked, turned, stepOf, chipAfter, outcomes}
-use Rattle.mcp2515.specs.Moments.{roleOf, trace, listed, events, others, bytes, before, after, placed, session, tidyFrom, tidy, records, outs}
+use Rattle.mcp2515.specs.Moments.{roleOf, trace, noFall, listedBy, events, others, bytes, before, after, placed, session, tidyFrom, tidy, records, outs}
 
 -- ---- records
 abbrev row : ℕ → ℕ → List ℕ
@@ -61,8 +61,8 @@ normal = low ∷ byte 0x02 ∷ byte 0x0F ∷ byte 0x00 ∷ high ∷ []
 -- To open this is to open all that a run looks through.
 tidied : List (List ℕ) → List (List ℕ)
 unfolding kindOf frameOf soundOf errorFlags movedTo entered freeToChange settled regionOf writableOf powerOnCore holds reads
-    txStored requestedOf aborted canctrlStored stored matches setOf matchedOf lowestFrom hitFor verdictOf matchOf bytesStored receivedOf bestOf choiceOf
-    heardOf idled errorHeard eventRefusal eventOf bufferCommand commandOf powerOn asked turned stepOf chipAfter outcomes roleOf trace listed events
+    txStored requestedOf requestedToSend aborted canctrlStored stored matches setOf matchedOf lowestFrom hitFor verdictOf matchOf bytesStored receivedOf bestOf choiceOf
+    heardOf idled errorHeard pinned eventRefusal eventOf bufferCommand commandOf powerOn asked turned stepOf chipAfter outcomes roleOf trace noFall listedBy events
     others bytes before after placed session tidyFrom tidy records outs
 tidied rs = records (tidy 0 (trace powerOn rs))
 
@@ -91,6 +91,7 @@ rested f ctrl heard sidl dlc d =
         config = replicate 48 0;
         tx = replicate 48 0;
         rx = 0 ∷ 0x24 ∷ sidl ∷ 0 ∷ 0 ∷ dlc ∷ d ∷ replicate 25 0;
+        pins = allHigh;
       };
       select = Raised;
     }
@@ -170,3 +171,52 @@ not-early e = let z : _≡_ {A = ℕ} 8 0 = ap (λ (os : List Outcome). getD os 
 
 not-late : outcomes powerOn late ≢ wrote ++ (ok 0 ∷ ok 0 ∷ ok 0 ∷ ok 0 ∷ ok 0x24 ∷ ok 0 ∷ heard 1 ∷ [])
 not-late e = let z : _≡_ {A = ℕ} 0 0x24 = ap (λ (os : List Outcome). getD os 9 (ok 0) .answer) (sym late-told ∙ e) in omega arith
+
+-- ---- LOAD TX BUFFER of two data bytes, with a fall of the buffer's enabled pin between them
+-- a level of TX0RTS
+abbrev pin : ℕ → List ℕ
+pin level = 8 ∷ 0 ∷ level ∷ replicate 13 0
+
+-- from power-on TXRTSCTRL is written, which enables TX0RTS
+abbrev enabled : List (List ℕ)
+enabled = low ∷ byte 0x02 ∷ byte 0x0D ∷ byte 0x01 ∷ high ∷ []
+
+abbrev fallen : List (List ℕ)
+fallen = enabled ++ (low ∷ byte 0x41 ∷ byte 0xAA ∷ pin 0 ∷ byte 0xBB ∷ high ∷ [])
+
+-- it is not listed, and stays as it is
+fallen-kept : tidied fallen ≡ fallen
+unfolding tidied
+fallen-kept = refl
+
+-- what the two bytes hold after a list
+abbrev loaded : List (List ℕ) → List ℕ
+loaded rs = holds (chipAfter powerOn rs .core) 0x36 ∷ holds (chipAfter powerOn rs .core) 0x37 ∷ []
+
+-- the first byte is taken, the fall requests the buffer, and the second finds it locked
+fallen-loaded : loaded fallen ≡ 0xAA ∷ 0x00 ∷ []
+unfolding tidied
+fallen-loaded = refl
+
+-- moved before select low the fall locks both bytes out, and moved behind select high none: so the LOAD acts at no single moment
+fallen-early : loaded (enabled ++ (pin 0 ∷ low ∷ byte 0x41 ∷ byte 0xAA ∷ byte 0xBB ∷ high ∷ [])) ≡ 0x00 ∷ 0x00 ∷ []
+unfolding tidied
+fallen-early = refl
+
+fallen-late : loaded (enabled ++ (low ∷ byte 0x41 ∷ byte 0xAA ∷ byte 0xBB ∷ high ∷ pin 0 ∷ [])) ≡ 0xAA ∷ 0xBB ∷ []
+unfolding tidied
+fallen-late = refl
+
+-- with the pin low from the start, and a rise in the fall's place, the LOAD is listed: select high is its moment, and the rise goes
+-- before select low
+abbrev risen : List (List ℕ)
+risen = pin 0 ∷ (enabled ++ (low ∷ byte 0x41 ∷ byte 0xAA ∷ pin 1 ∷ byte 0xBB ∷ high ∷ []))
+
+risen-tidied : tidied risen ≡ pin 0 ∷ (enabled ++ (pin 1 ∷ low ∷ byte 0x41 ∷ byte 0xAA ∷ byte 0xBB ∷ high ∷ []))
+unfolding tidied
+risen-tidied = refl
+
+-- ---- after power-on TXRTSCTRL holds and reads the levels of three pins that are high
+power-on-levels : (holds (powerOn .core) 0x0D ≡ 0x38) × (reads (powerOn .core) 0x0D ≡ 0x38)
+unfolding tidied
+power-on-levels = (refl, refl)

@@ -9,7 +9,8 @@ use lib.Seq.{sets, sets-eq, length-sets, take-at, take-suc, take-suc-set, getD-d
 use Rattle.records.specs.declared.Fields.{Fields}
 use Rattle.records.specs.declared.Outcome.{Outcome}
 use Rattle.records.specs.Records.{recordOf}
-use Rattle.registers.specs.State.{withControl}
+use Rattle.registers.specs.declared.Core.{Core}
+use Rattle.registers.specs.State.{withControl, withPins}
 use Rattle.registers.specs.Registers.{powerOnCore}
 use Rattle.image.specs.Image.{imageSize, isChip, decoded, encoded, coreOf, powerOnBytes, Became, Acted, Answered}
 use Rattle.image.proofs.Laws.{slice-above, sets-kept, drop-sets, drop-past}
@@ -47,12 +48,16 @@ pub part-below : (m vs : List ℕ) (i j n : ℕ) → j + n ≤ i → take n (dro
 part-below m vs i j n h = sets-kept (λ l. take n (drop j l)) (j + n) (λ l k v p. slice-above j n l k v p) m i vs h
 
 -- ---- the chip that was put in
-pub packed-in : (z m n : List ℕ) (c : Chip) → length z ≡ imageSize → take 48 z ≡ c .core .config → take 48 (drop 48 z) ≡ c .core .tx
-    → take 32 (drop 96 z) ≡ c .core .rx → Acted z m (withControl (coreOf z) (c .core .control)) → Selected m n (c .select) → Packed n c
-packed-in z m n c e p q r a s =
+pub packed-in : (z m l n : List ℕ) (c : Chip) → length z ≡ imageSize → take 48 z ≡ c .core .config → take 48 (drop 48 z) ≡ c .core .tx
+    → take 32 (drop 96 z) ≡ c .core .rx → Acted z m (withControl (coreOf z) (c .core .control)) → Acted m l (withPins (coreOf m) (c .core .pins))
+    → Selected l n (c .select) → Packed n c
+packed-in z m l n c e p q r a b s =
     let w : Became z m (withControl (coreOf z) (c .core .control)) = a .image e in
-    let t : Turned m n (coreOf m) (c .select) = s .image (w .size) in
-    record { size = t .size; chip = rw (t .core, w .core, t .select, p, q, r) }
+    let v : Became m l (withPins (coreOf m) (c .core .pins)) = b .image (w .size) in
+    let t : Turned l n (coreOf l) (c .select) = s .image (v .size) in
+    let core : coreOf n ≡ withPins (withControl (coreOf z) (c .core .control)) (c .core .pins) =
+    t .core ∙ v .core ∙ ap (λ (k : Core). withPins k (c .core .pins)) (w .core) in
+    record { size = t .size; chip = rw (core, t .select, p, q, r) }
 
 -- ---- three parts stored one after the other
 filled-size : (m n vs : List ℕ) (at : ℕ) → n ≡ sets m at vs → length n ≡ length m

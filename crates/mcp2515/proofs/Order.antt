@@ -164,7 +164,7 @@ module _ (extra : ℕ) where
       in-it : Kept (tidyFrom extra outside t) t → Within → (l : Entry) (s : List Entry) → isEventRole (roleIn l) ≡ false
           → (v : Bool) → isHigh (roleIn x) ≡ v → Kept (tidyFrom extra (inside l s) (x ∷ t)) (l ∷ (s ++ (x ∷ t)))
       in-it o w l s el true e =
-          let p = placed-kept (listed extra (l .met) (bytes s)) l s x el (high-no-event (roleIn x) e) in
+          let p = placed-kept (listed extra (l .met) s) l s x el (high-no-event (roleIn x) e) in
           rw e (subst (λ (z : List Entry). Kept (session extra l s x ++ tidyFrom extra outside t) z) (regroup l s x t)
           (kept-append (session extra l s x) (l ∷ (s ++ (x ∷ []))) (tidyFrom extra outside t) t p o))
       in-it o w l s el false e =
@@ -200,8 +200,8 @@ module _ (extra : ℕ) where
       in-it : Beyond → Within → (l : Entry) (s : List Entry) → Apart extra (inside l s) (x ∷ t) → (v : Bool) → isHigh (roleIn x) ≡ v
           → tidyFrom extra (inside l s) (x ∷ t) ≡ l ∷ (s ++ (x ∷ t))
       in-it o w l s a true e =
-          let p : Still (listed extra (l .met) (bytes s)) s × Apart extra outside t = rw e at a in
-          rw (e, placed-same (listed extra (l .met) (bytes s)) l s x (p .0), o (p .1)) (regroup l s x t)
+          let p : Still (listed extra (l .met) s) s × Apart extra outside t = rw e at a in
+          rw (e, placed-same (listed extra (l .met) s) l s x (p .0), o (p .1)) (regroup l s x t)
       in-it o w l s a false e = rw (e, w l (s ++ (x ∷ [])) (rw e at a)) (regroup l s x t)
 
   pub tidy-kept : TidyKept extra

@@ -4,7 +4,7 @@ use mathlib.Core.List.{List}
 use mathlib.Core.Path.{_≡_, refl}
 use Prim.Native.Nat.{ℕ}
 use Rattle.records.specs.declared.Kind.{Kind}
-use Rattle.records.specs.declared.Kind.the-variants.{SelectLow, Exchange, SelectHigh, FrameHeard, BusIdle, FrameEnds, ReceiveError, Recovery, Unknown}
+use Rattle.records.specs.declared.Kind.the-variants.{SelectLow, Exchange, SelectHigh, FrameHeard, BusIdle, FrameEnds, ReceiveError, Recovery, PinLevel, Unknown}
 use Rattle.records.specs.Records.{refusedField, byteAt, kindOf, soundPlain, soundBy, soundOf}
 use Rattle.spi.specs.declared.Act.the-variants.{Refuse}
 use Rattle.spi.specs.declared.Select.{Select}
@@ -26,6 +26,7 @@ asked-by BusIdle s r b = refl
 asked-by FrameEnds s r b = refl
 asked-by ReceiveError s r b = refl
 asked-by Recovery s r b = refl
+asked-by PinLevel s r b = either (soundPlain PinLevel r) (soundBy PinLevel r) (Refuse refusedField)
 asked-by Unknown s r b = either (soundPlain Unknown r) false (Refuse refusedField)
 
 turned-by : (g : Kind) (s : Select) (r : List ℕ) (b : ℕ) → cond (soundPlain g r) (turnedBy g s b) s ≡ cond (soundBy g r) (turnedBy g s b) s
@@ -37,6 +38,7 @@ turned-by BusIdle s r b = refl
 turned-by FrameEnds s r b = refl
 turned-by ReceiveError s r b = refl
 turned-by Recovery s r b = refl
+turned-by PinLevel s r b = either (soundPlain PinLevel r) (soundBy PinLevel r) s
 turned-by Unknown s r b = either (soundPlain Unknown r) false s
 
 pub asked-plain : (s : Select) (r : List ℕ) → cond (soundPlain (kindOf r) r) (askedBy (kindOf r) s (byteAt r 1)) (Refuse refusedField) ≡ asked s r

@@ -11,7 +11,7 @@ use borrow.Author.Tests.{not-false}
 use Rattle.bits.specs.Bit.{hasBit}
 use Rattle.bits.proofs.All.{every}
 use Rattle.records.specs.declared.Kind.{Kind}
-use Rattle.records.specs.declared.Kind.the-variants.{SelectLow, Exchange, SelectHigh, FrameHeard, BusIdle, FrameEnds, ReceiveError, Recovery, Unknown}
+use Rattle.records.specs.declared.Kind.the-variants.{SelectLow, Exchange, SelectHigh, FrameHeard, BusIdle, FrameEnds, ReceiveError, Recovery, PinLevel, Unknown}
 use Rattle.records.specs.declared.Frame.{Frame}
 use Rattle.records.specs.Records.{accepted, byteAt, kindOf, isEvent, frameOf}
 use Rattle.registers.specs.declared.Mode.{Mode}
@@ -22,11 +22,11 @@ use Rattle.registers.specs.declared.Request.{Request}
 use Rattle.registers.specs.declared.Request.the-variants.{Nothing, Wanted}
 use Rattle.registers.specs.declared.TxBuffer.{TxBuffer}
 use Rattle.registers.specs.declared.Region.{Region}
-use Rattle.registers.specs.declared.Region.the-variants.{Filters, Masks, Configured, Bfpctrl, Tec, Rec, Caninte, Canintf, Eflg, Canstat, Canctrl, TxCtrl, TxMessage, RxCtrl, RxMessage}
+use Rattle.registers.specs.declared.Region.the-variants.{Filters, Masks, Configured, Bfpctrl, Txrtsctrl, Tec, Rec, Caninte, Canintf, Eflg, Canstat, Canctrl, TxCtrl, TxMessage, RxCtrl, RxMessage}
 use Rattle.registers.specs.declared.Counters.{Counters}
 use Rattle.registers.specs.declared.Control.{Control}
 use Rattle.registers.specs.declared.Core.{Core}
-use Rattle.registers.specs.State.{ABAT, WAKIF, isConfiguration, isNormal, isLoopback, isIdle, withRequest, withControl}
+use Rattle.registers.specs.State.{ABAT, WAKIF, isConfiguration, isNormal, isLoopback, isIdle, withRequest, withControl, rtsBit, withPins}
 use Rattle.registers.specs.Errors.{isBusOff, movedTo, tecLess, tecMore}
 use Rattle.registers.specs.Registers.{isProfile, regionOf, writableIn, writableOf, isKept, holdsIn, holds, powerOnCore, resetCore}
 use Rattle.registers.proofs.Kept.{reset-holds}
@@ -40,7 +40,7 @@ use Rattle.controller.specs.declared.End.{End}
 use Rattle.controller.specs.declared.End.the-variants.{Sent, LostArbitration, Failed}
 use Rattle.controller.specs.declared.Choice.the-variants.{Send, Nobody}
 use Rattle.controller.specs.Sending.{maySend, bestOf, choiceOf, started, endOf, counted, sentBy, lostBy, failedBy, endedBy, frameSent}
-use Rattle.controller.specs.Events.{Told, settledCore, ignored, goodFrame, wokenControl, heardIn, heardOf, endsIn, endsBy, ended, idled, errorAdds, erred, errorHeard, happensBy, eventRefusal, toldOf, refusedBy, eventOf}
+use Rattle.controller.specs.Events.{Told, settledCore, ignored, goodFrame, wokenControl, heardIn, heardOf, endsIn, endsBy, ended, idled, errorAdds, erred, errorHeard, pinOf, isHighLevel, fallsEnabled, pinned, happensBy, eventRefusal, toldOf, refusedBy, eventOf}
 use Rattle.spi.specs.declared.Act.{Act}
 use Rattle.spi.specs.declared.Act.the-variants.{Rest, ResetAll, Fetch, Store, Modify, RequestToSend, ClearFlag, FetchStatus, FetchRxStatus, Refuse}
 use Rattle.mcp2515.specs.declared.Chip.{Chip}
@@ -48,7 +48,7 @@ use Rattle.mcp2515.specs.declared.Stepped.{Stepped}
 use Rattle.spi.specs.Instructions.{clearedOf, acted}
 use Rattle.spi.proofs.Clash.{clash}
 use Rattle.mcp2515.specs.Step.{powerOn, asked, stepOf, nextChip, chipAfter}
-use Rattle.mcp2515.specs.Runs.{SettledReached, isPending, PendingReached, FlightReached, isStore, storesInConfiguration, FiltersKept, MasksKept}
+use Rattle.mcp2515.specs.Runs.{SettledReached, isPending, PendingReached, FlightReached, isStore, storesInConfiguration, FiltersKept, MasksKept, PinsKept}
 use Rattle.mcp2515.proofs.CoreFacts.{Good}
 use Rattle.mcp2515.proofs.CoreSettle.{good-power, good-acted, good-event}
 use Rattle.mcp2515.proofs.CoreKept.{either, no-or, event-kept}
@@ -125,6 +125,7 @@ stored-sound Filters k a v s = s
 stored-sound Masks k a v s = s
 stored-sound Configured k a v s = s
 stored-sound Bfpctrl k a v s = s
+stored-sound Txrtsctrl k a v s = s
 stored-sound Tec k a v s = s
 stored-sound Rec k a v s = s
 stored-sound Caninte k a v s = s
@@ -222,7 +223,7 @@ started-sound c s = go (maySend c && waits (c .tx)) refl
     go false e = s
 
 happens-sound : (q : Kind) (k : Core) (r : List ℕ) → Sound (k .control) → Sound (happensBy q k r .core .control)
-unfolding heardOf idled ended errorHeard movedTo
+unfolding heardOf idled ended errorHeard movedTo pinned requestedToSend
 happens-sound SelectLow k r s = s
 happens-sound Exchange k r s = s
 happens-sound SelectHigh k r s = s
@@ -233,6 +234,10 @@ happens-sound ReceiveError k r s =
     either Sound (isNormal (k .control .state .mode) && not (isBusOff (k .control .counters)))
     {x = erred (k .control) (errorAdds (byteAt r 1))} {y = k .control} s s
 happens-sound Recovery k r s = λ h. rw (left (sendsIn (k .control .state .mode)) _ (s h))
+happens-sound PinLevel k r s =
+    let b : TxBuffer = pinOf (byteAt r 1) in
+    either (λ (j : Core). Sound (j .control)) (fallsEnabled k b (isHighLevel (byteAt r 2)))
+    {x = withControl k (requestedToSend (k .control) (rtsBit b))} {y = k} s s
 happens-sound Unknown k r s = s
 
 event-sound : (k : Core) (r : List ℕ) → Sound (k .control) → Sound (eventOf k r .core .control)
@@ -252,6 +257,7 @@ profile-in Filters k x e = refl
 profile-in Masks k x e = refl
 profile-in Configured k x e = refl
 profile-in Bfpctrl k x e = refl
+profile-in Txrtsctrl k x e = clash (sym e)
 profile-in Tec k x e = clash (sym e)
 profile-in Rec k x e = clash (sym e)
 profile-in Caninte k x e = clash (sym e)
@@ -291,6 +297,7 @@ stored-filter : (g : Region) (k : Core) (x v i : ℕ) → isConfiguration (k .co
 stored-filter Filters k x v i m ne = rw (m, set-getD)
 stored-filter Masks k x v i m ne = rw (m, set-getD)
 stored-filter Configured k x v i m ne = rw (m, set-getD)
+stored-filter Txrtsctrl k x v i m ne = rw (m, set-getD)
 stored-filter Bfpctrl k x v i m ne = getD-set-other (k .config) (x % 48) i _ 0 (ne refl)
 stored-filter Tec k x v i m ne = refl
 stored-filter Rec k x v i m ne = refl
@@ -318,7 +325,7 @@ reset-kept : (k : Core) (a : ℕ) → AtProfile a → regionOf (a % 128) ≡ Fil
 reset-kept k a e f =
     same-profile (settledCore (resetCore k)) (resetCore k) a e refl
     ∙ reset-holds k a
-    ∙ ap (λ (g : Region). cond (isKept g) (holds k a) (holds powerOnCore a)) f
+    ∙ ap (λ (g : Region). cond (isKept g) (holds k a) (holds (withPins powerOnCore (k .pins)) a)) f
 
 -- an act that is no store in Configuration; if it is RESET, the address is one of a filter
 acted-kept : (x : Act) (k : Core) (a : ℕ) → isStore x && isConfiguration (k .control .state .mode) ≡ false
@@ -346,3 +353,83 @@ filters-kept c r m a e = profile-kept c r a m (λ _. e) (ap isProfile e)
 
 pub masks-kept : MasksKept
 masks-kept c r m ne a e = profile-kept c r a m (λ p. absurd (ne p)) (ap isProfile e)
+
+-- ---- the levels of the pins
+stored-pins : (g : Region) (k : Core) (a v : ℕ) → storedIn g k a v .pins ≡ k .pins
+stored-pins Filters k a v = refl
+stored-pins Masks k a v = refl
+stored-pins Configured k a v = refl
+stored-pins Bfpctrl k a v = refl
+stored-pins Txrtsctrl k a v = refl
+stored-pins Tec k a v = refl
+stored-pins Rec k a v = refl
+stored-pins Caninte k a v = refl
+stored-pins Canintf k a v = refl
+stored-pins Eflg k a v = refl
+stored-pins Canstat k a v = refl
+stored-pins Canctrl k a v = refl
+stored-pins (TxCtrl b) k a v = refl
+stored-pins (TxMessage b) k a v = refl
+stored-pins (RxCtrl b) k a v = refl
+stored-pins RxMessage k a v = refl
+
+acted-pins : (x : Act) (k : Core) → acted x k .pins ≡ k .pins
+unfolding stored modified resetCore
+acted-pins Rest k = refl
+acted-pins ResetAll k = refl
+acted-pins (Fetch a) k = refl
+acted-pins (Store a v) k = stored-pins (regionOf (a % 128)) k (a % 128) v
+acted-pins (Modify a m v) k = stored-pins (regionOf (a % 128)) k (a % 128) _
+acted-pins (RequestToSend m) k = refl
+acted-pins (ClearFlag n) k = refl
+acted-pins FetchStatus k = refl
+acted-pins FetchRxStatus k = refl
+acted-pins (Refuse n) k = refl
+
+received-pins : (k : Core) (f : Frame) → receivedOf k f .core .pins ≡ k .pins
+unfolding receivedOf
+received-pins k f = refl
+
+heard-pins : (m : Mode) (k : Core) (f : Frame) → heardIn m k f .core .pins ≡ k .pins
+unfolding receivedOf
+heard-pins Normal k f = either (λ (h : Received). h .core .pins ≡ k .pins) (isBusOff (k .control .counters)) {x = ignored k} {y = goodFrame k f} refl refl
+heard-pins Sleep k f =
+    either (λ (h : Received). h .core .pins ≡ k .pins) (hasBit (k .control .flags .caninte) WAKIF)
+    {x = record { core = withControl k (wokenControl (k .control)); answer = Woke; matched = 0 }} {y = ignored k} refl refl
+heard-pins Loopback k f = refl
+heard-pins ListenOnly k f = either (λ (h : Received). h .core .pins ≡ k .pins) (isBusOff (k .control .counters)) {x = ignored k} {y = receivedOf k f} refl refl
+heard-pins Configuration k f = refl
+
+ends-pins : (x : Bool) (k : Core) (b : TxBuffer) (e : End) → endsIn x k b e .core .pins ≡ k .pins
+unfolding receivedOf
+ends-pins true k b Sent = refl
+ends-pins true k b LostArbitration = refl
+ends-pins true k b Failed = refl
+ends-pins false k b e = refl
+
+flight-pins : (l : Flight) (k : Core) (e : End) → endsBy l k e .core .pins ≡ k .pins
+flight-pins Idle k e = refl
+flight-pins (Of b) k e = ends-pins (isLoopback (k .control .state .mode)) k b e
+
+happens-pins : (q : Kind) (k : Core) (r : List ℕ) → (q ≡ PinLevel → ⊥) → happensBy q k r .core .pins ≡ k .pins
+unfolding heardOf idled ended
+happens-pins SelectLow k r n = refl
+happens-pins Exchange k r n = refl
+happens-pins SelectHigh k r n = refl
+happens-pins FrameHeard k r n = heard-pins (k .control .state .mode) k (frameOf r)
+happens-pins BusIdle k r n = refl
+happens-pins FrameEnds k r n = flight-pins (k .control .state .flight) k (endOf (byteAt r 1))
+happens-pins ReceiveError k r n = refl
+happens-pins Recovery k r n = refl
+happens-pins PinLevel k r n = absurd (n refl)
+happens-pins Unknown k r n = refl
+
+event-pins : (k : Core) (r : List ℕ) → (kindOf r ≡ PinLevel → ⊥) → eventOf k r .core .pins ≡ k .pins
+unfolding eventOf
+event-pins k r n =
+    either (λ (t : Told). t .core .pins ≡ k .pins) (eqb (eventRefusal (k .control) r) accepted)
+    {x = toldOf (happensBy (kindOf r) k r)} {y = refusedBy (eventRefusal (k .control) r) k} (happens-pins (kindOf r) k r n) refl
+
+pub pins-kept : PinsKept
+pins-kept c r n =
+    step-core (λ (k : Core). k .pins ≡ c .core .pins) c r (event-pins (c .core) r n) (acted-pins (asked (c .select) r) (c .core))

@@ -5,7 +5,7 @@ use mathlib.Core.Path.{_≡_, refl}
 use Prim.Native.Nat.{ℕ}
 use lib.Dec.{eqb}
 use Rattle.records.specs.declared.Kind.{Kind}
-use Rattle.records.specs.declared.Kind.the-variants.{SelectLow, Exchange, SelectHigh, FrameHeard, BusIdle, FrameEnds, ReceiveError, Recovery, Unknown}
+use Rattle.records.specs.declared.Kind.the-variants.{SelectLow, Exchange, SelectHigh, FrameHeard, BusIdle, FrameEnds, ReceiveError, Recovery, PinLevel, Unknown}
 use Rattle.records.specs.Records.{byteAt, kindOf, isEvent, soundOf}
 use Rattle.registers.specs.declared.Core.{Core}
 use Rattle.controller.specs.Events.{eventRefusal, eventOf}
@@ -35,6 +35,7 @@ unmoved-by BusIdle s b k h = record { answers-0 = refl; core-kept = refl; select
 unmoved-by FrameEnds s b k h = record { answers-0 = refl; core-kept = refl; select-kept = refl }
 unmoved-by ReceiveError s b k h = record { answers-0 = refl; core-kept = refl; select-kept = refl }
 unmoved-by Recovery s b k h = record { answers-0 = refl; core-kept = refl; select-kept = refl }
+unmoved-by PinLevel s b k h = record { answers-0 = refl; core-kept = refl; select-kept = refl }
 unmoved-by Unknown s b k h = record { answers-0 = refl; core-kept = refl; select-kept = refl }
 
 unmoved : (s : Select) (r : List ℕ) (k : Core) → (refusalOf (asked s r) ≡ 0 → ⊥) → Unmoved (asked s r) s (turned s r) k

@@ -1,19 +1,21 @@
 -- The laws of the SPI side from the facts of the core, and with them demand 3. Assumes nothing.
-use mathlib.Core.Bool.{Bool, true, false, cond}
-use mathlib.Core.List.{List}
+use mathlib.Core.Bool.{Bool, true, false, cond, not, _&&_}
+use mathlib.Core.List.{List, [], _∷_}
 use mathlib.Core.Path.{_≡_, refl, sym, ap, subst, _∙_}
 use Prim.Native.Nat.{ℕ, zero, suc, _+_, _/_, _%_, _≤_, _<_}
 use native.Mathlib.Omega.{arith}
 use lib.Dec.{eqb}
+use borrow.Author.Tests.{not-true}
 use Rattle.records.specs.declared.Kind.{Kind}
-use Rattle.records.specs.declared.Kind.the-variants.{SelectLow, Exchange, SelectHigh, FrameHeard, BusIdle, FrameEnds, ReceiveError, Recovery, Unknown}
+use Rattle.records.specs.declared.Kind.the-variants.{SelectLow, Exchange, SelectHigh, FrameHeard, BusIdle, FrameEnds, ReceiveError, Recovery, PinLevel, Unknown}
 use Rattle.records.specs.Records.{byteAt, kindOf, isEvent, soundOf}
 use Rattle.registers.specs.declared.RxBuffer.{RxBuffer}
 use Rattle.registers.specs.declared.RxBuffer.the-variants.{Rxb0, Rxb1}
 use Rattle.registers.specs.declared.TxBuffer.{TxBuffer}
 use Rattle.registers.specs.declared.TxBuffer.the-variants.{Txb0, Txb1, Txb2}
 use Rattle.registers.specs.declared.Core.{Core}
-use Rattle.controller.specs.Events.{eventOf}
+use Rattle.registers.specs.State.{levelOf}
+use Rattle.controller.specs.Events.{fallsEnabled, eventOf}
 use Rattle.spi.specs.declared.Command.{Command}
 use Rattle.spi.specs.declared.Command.the-variants.{Reset, Read, Write, BitModify, ReadRxBuffer, LoadTxBuffer, Rts, ReadStatus, RxStatus, UnknownCode}
 use Rattle.spi.specs.declared.Instruction.{Instruction}
@@ -28,13 +30,21 @@ use Rattle.spi.specs.Instructions.{bufferCommand, commandOf, firstAct, opened, 
 use Rattle.mcp2515.specs.declared.Stepped.{Stepped}
 use Rattle.records.specs.declared.Outcome.{Outcome}
 use Rattle.mcp2515.specs.Step.{powerOn, askedBy, asked, turnedBy, turned, spiStep, eventStep, stepOf, nextChip, outcomeIn, outcome}
-use Rattle.mcp2515.specs.Moments.{Role, event, low, exchange, high, other, acceptedRole, roleOf, bytesFrom, most, momentOf, isFree, allowed, Demand3For}
-use Rattle.mcp2515.proofs.CoreFacts.{Good, rxBase, txBase, RxByte, TxByte, CoreFacts}
+use Rattle.mcp2515.specs.Moments.{Role, event, low, exchange, high, other, acceptedRole, roleOf, Entry, bytesFrom, most, momentOf, isFree, falls, noFall, allowed, Demand3For}
+use Rattle.mcp2515.proofs.CoreFacts.{Good, rxBase, txBase, RxByte, TxByte, asks, CoreFacts}
 use Rattle.spi.proofs.Turns.{exchange-accepted, high-told}
-use Rattle.mcp2515.proofs.Swap.{Stage, fresh, sofar, isOther, Event, roleAt, named, Swap, Laws, demand-3-by}
+use Rattle.mcp2515.proofs.Swap.{Stage, fresh, sofar, isOther, Event, roleAt, named, entry, Swap, Laws, demand-3-by}
 
 clash : {A : Type 0} → true ≡ false → A
 clash e = absurd (let z : _≡_ {A = ℕ} 0 1 = cc in omega arith)
+
+and-first : (x y : Bool) → x && y ≡ true → x ≡ true
+and-first true y e = refl
+and-first false y e = e
+
+and-second : (x y : Bool) → x && y ≡ true → y ≡ true
+and-second true y e = e
+and-second false y e = clash (sym e)
 
 -- ---- what a role says of its record
 abbrev isSession : Role → Bool
@@ -71,6 +81,7 @@ kinds BusIdle b e = clash (sym e)
 kinds FrameEnds b e = clash (sym e)
 kinds ReceiveError b e = clash (sym e)
 kinds Recovery b e = clash (sym e)
+kinds PinLevel b e = clash (sym e)
 kinds Unknown true e = clash (sym e)
 kinds Unknown false e = clash (sym e)
 
@@ -105,30 +116,35 @@ isStill FetchStatus = false
 isStill FetchRxStatus = false
 isStill (Refuse n) = true
 
--- The acts that may change places with an event that follows.
-abbrev CalmAct : Core → Act → Type 0
-CalmAct k Rest = Unit {0}
-CalmAct k ResetAll = ⊥
-CalmAct k (Fetch a) = (n : RxBuffer) × RxByte n a × (isFull (k .control) n ≡ true)
-CalmAct k (Store a b) = (n : TxBuffer) × TxByte n a × (isFree k n ≡ true)
-CalmAct k (Modify a m b) = ⊥
-CalmAct k (RequestToSend m) = ⊥
-CalmAct k (ClearFlag n) = ⊥
-CalmAct k FetchStatus = ⊥
-CalmAct k FetchRxStatus = ⊥
-CalmAct k (Refuse n) = Unit {0}
+-- Run from the core k, the events ask for nothing of the buffer.
+abbrev Unasked : TxBuffer → Core → List Entry → Type 0
+Unasked b k [] = Unit {0}
+Unasked b k (e ∷ es) = (asks k (e .rec) b ≡ false) × Unasked b (eventOf k (e .rec) .core) es
 
-still-calm : (k : Core) (a : Act) → isStill a ≡ true → CalmAct k a
-still-calm k Rest e = tt
-still-calm k ResetAll e = clash (sym e)
-still-calm k (Fetch a) e = clash (sym e)
-still-calm k (Store a b) e = clash (sym e)
-still-calm k (Modify a m b) e = clash (sym e)
-still-calm k (RequestToSend m) e = clash (sym e)
-still-calm k (ClearFlag n) e = clash (sym e)
-still-calm k FetchStatus e = clash (sym e)
-still-calm k FetchRxStatus e = clash (sym e)
-still-calm k (Refuse n) e = tt
+-- The acts that may change places with the events that follow.
+abbrev CalmAct : Core → Act → List Entry → Type 0
+CalmAct k Rest es = Unit {0}
+CalmAct k ResetAll es = ⊥
+CalmAct k (Fetch a) es = (n : RxBuffer) × RxByte n a × (isFull (k .control) n ≡ true)
+CalmAct k (Store a b) es = (n : TxBuffer) × TxByte n a × (isFree k n ≡ true) × Unasked n k es
+CalmAct k (Modify a m b) es = ⊥
+CalmAct k (RequestToSend m) es = ⊥
+CalmAct k (ClearFlag n) es = ⊥
+CalmAct k FetchStatus es = ⊥
+CalmAct k FetchRxStatus es = ⊥
+CalmAct k (Refuse n) es = Unit {0}
+
+still-calm : (k : Core) (a : Act) (es : List Entry) → isStill a ≡ true → CalmAct k a es
+still-calm k Rest es e = tt
+still-calm k ResetAll es e = clash (sym e)
+still-calm k (Fetch a) es e = clash (sym e)
+still-calm k (Store a b) es e = clash (sym e)
+still-calm k (Modify a m b) es e = clash (sym e)
+still-calm k (RequestToSend m) es e = clash (sym e)
+still-calm k (ClearFlag n) es e = clash (sym e)
+still-calm k FetchStatus es e = clash (sym e)
+still-calm k FetchRxStatus es e = clash (sym e)
+still-calm k (Refuse n) es e = tt
 
 -- ---- how far a session has come: the open instruction, with j exchanges behind the first
 abbrev Come : Command → ℕ → Instruction → Type 0
@@ -160,17 +176,17 @@ come-first RxStatus = refl
 come-first (ReadRxBuffer n a) = ap (λ (z : ℕ). ReadingBuffer n z) (omega arith)
 come-first (LoadTxBuffer n a) = ap (λ (z : ℕ). Writing z) (omega arith)
 
-calm-first : (m : Command) (k : Core) → 0 < momentOf m → CalmAct k (firstAct m)
-calm-first Reset k h = absurd (omega arith)
-calm-first (Rts m) k h = absurd (omega arith)
-calm-first UnknownCode k h = tt
-calm-first BitModify k h = tt
-calm-first Read k h = tt
-calm-first Write k h = tt
-calm-first ReadStatus k h = tt
-calm-first RxStatus k h = tt
-calm-first (ReadRxBuffer n a) k h = tt
-calm-first (LoadTxBuffer n a) k h = tt
+calm-first : (m : Command) (k : Core) (es : List Entry) → 0 < momentOf m → CalmAct k (firstAct m) es
+calm-first Reset k es h = absurd (omega arith)
+calm-first (Rts m) k es h = absurd (omega arith)
+calm-first UnknownCode k es h = tt
+calm-first BitModify k es h = tt
+calm-first Read k es h = tt
+calm-first Write k es h = tt
+calm-first ReadStatus k es h = tt
+calm-first RxStatus k es h = tt
+calm-first (ReadRxBuffer n a) k es h = tt
+calm-first (LoadTxBuffer n a) k es h = tt
 
 -- From its moment on a session is no READ RX BUFFER, and its select high asks nothing.
 high-still : (extra : ℕ) (m : Command) (j : ℕ) (i : Instruction) → momentOf m ≤ j → j < most extra m → Come m j i → isStill (highAct i) ≡ true
@@ -270,16 +286,16 @@ abbrev chip : Core → Instruction → Chip
 chip k i = record { core = k; select = Lowered i }
 
 -- The record is no event, and its act is calm, or still.
-record Calms (c : Chip) (r : List ℕ) : Type 0 where
+record Calms (c : Chip) (r : List ℕ) (es : List Entry) : Type 0 where
   spi : isEvent (kindOf r) ≡ false
-  calm : CalmAct (c .core) (asked (c .select) r)
+  calm : CalmAct (c .core) (asked (c .select) r) es
 
 record Quiets (c : Chip) (r : List ℕ) : Type 0 where
   spi : isEvent (kindOf r) ≡ false
   still : isStill (asked (c .select) r) ≡ true
 
-quiets-calm : (c : Chip) (r : List ℕ) → Quiets c r → Calms c r
-quiets-calm c r q = record { spi = q .spi; calm = still-calm (c .core) (asked (c .select) r) (q .still) }
+quiets-calm : (c : Chip) (r : List ℕ) (es : List Entry) → Quiets c r → Calms c r es
+quiets-calm c r es q = record { spi = q .spi; calm = still-calm (c .core) (asked (c .select) r) es (q .still) }
 
 quiets-back : (c : Chip) (r e : List ℕ) → Event e → Quiets (nextChip c e) r → Quiets c r
 quiets-back c r e v q =
@@ -325,23 +341,24 @@ other-step k i r h = go (kindOf r) refl (soundOf r) refl
     go FrameEnds e b s = clash (sym (rw e at h))
     go ReceiveError e b s = clash (sym (rw e at h))
     go Recovery e b s = clash (sym (rw e at h))
+    go PinLevel e b s = clash (sym (rw e at h))
     go Unknown e true s = refused (rw e) 2 (rw (s, e)) (rw (s, e))
     go Unknown e false s = refused (rw e) 2 (rw s) (rw s)
 
 module _ (F : CoreFacts) where
-  open CoreFacts F using (good-power, good-acted, good-event, full-event, free-event, fetch-event, store-free, store-refusal, store-answer, store-set, store-event)
+  open CoreFacts F using (good-power, good-acted, good-event, full-event, free-event, fetch-event, store-free, store-refusal, store-answer, store-set, store-asks, store-event)
 
-  calm-happens : (k : Core) (e : List ℕ) (a : Act) → CalmAct k a → CalmAct (eventOf k e .core) a
-  calm-happens k e Rest c = tt
-  calm-happens k e ResetAll c = c
-  calm-happens k e (Fetch a) c = (c .0, c .1, full-event k e (c .0) (c .2))
-  calm-happens k e (Store a b) c = (c .0, c .1, free-event k e (c .0) (c .2))
-  calm-happens k e (Modify a m b) c = c
-  calm-happens k e (RequestToSend m) c = c
-  calm-happens k e (ClearFlag n) c = c
-  calm-happens k e FetchStatus c = c
-  calm-happens k e FetchRxStatus c = c
-  calm-happens k e (Refuse n) c = tt
+  calm-happens : (k : Core) (e : Entry) (es : List Entry) (a : Act) → CalmAct k a (e ∷ es) → CalmAct (eventOf k (e .rec) .core) a es
+  calm-happens k e es Rest c = tt
+  calm-happens k e es ResetAll c = c
+  calm-happens k e es (Fetch a) c = (c .0, c .1, full-event k (e .rec) (c .0) (c .2))
+  calm-happens k e es (Store a b) c = (c .0, c .1, free-event k (e .rec) (c .0) (c .3 .0) (c .2), c .3 .1)
+  calm-happens k e es (Modify a m b) c = c
+  calm-happens k e es (RequestToSend m) c = c
+  calm-happens k e es (ClearFlag n) c = c
+  calm-happens k e es FetchStatus c = c
+  calm-happens k e es FetchRxStatus c = c
+  calm-happens k e es (Refuse n) c = tt
 
   record ActSwap (k : Core) (e : List ℕ) (a : Act) : Type 0 where
     same-reply : replyTo a (eventOf k e .core) ≡ replyTo a k
@@ -355,27 +372,28 @@ module _ (F : CoreFacts) where
       → replyTo a (eventOf k e .core) ≡ replyTo a k → ActSwap k e a
   idle-swap k e a p q s = record { same-reply = s; same-refusal = rw p; same-answer = rw p; same-set = rw p; same-core = rw (p, q) }
 
-  act-swap : (k : Core) (e : List ℕ) (a : Act) → Good k → CalmAct k a → ActSwap k e a
-  act-swap k e Rest g c = idle-swap k e Rest g (good-event k e g) refl
-  act-swap k e ResetAll g c = absurd c
-  act-swap k e (Fetch a) g c = idle-swap k e (Fetch a) g (good-event k e g) (fetch-event k e (c .0) a (c .2) (c .1))
-  act-swap k e (Store a b) g c = record {
+  act-swap : (k : Core) (e : Entry) (es : List Entry) (a : Act) → Good k → CalmAct k a (e ∷ es) → ActSwap k (e .rec) a
+  act-swap k e es Rest g c = idle-swap k (e .rec) Rest g (good-event k (e .rec) g) refl
+  act-swap k e es ResetAll g c = absurd c
+  act-swap k e es (Fetch a) g c = idle-swap k (e .rec) (Fetch a) g (good-event k (e .rec) g) (fetch-event k (e .rec) (c .0) a (c .2) (c .1))
+  act-swap k e es (Store a b) g c = record {
     same-reply = refl;
-    same-refusal = store-refusal k e (c .0) a b g (c .2) (c .1);
-    same-answer = store-answer k e (c .0) a b g (c .2) (c .1);
-    same-set = store-set k e (c .0) a b g (c .2) (c .1);
-    same-core = store-event k e (c .0) a b g (c .2) (c .1);
+    same-refusal = store-refusal k (e .rec) (c .0) a b g (c .2) (c .1);
+    same-answer = store-answer k (e .rec) (c .0) a b g (c .2) (c .1);
+    same-set = store-set k (e .rec) (c .0) a b g (c .2) (c .1);
+    same-core = store-event k (e .rec) (c .0) a b g (c .2) (c .1) (c .3 .0);
   }
-  act-swap k e (Modify a m b) g c = absurd c
-  act-swap k e (RequestToSend m) g c = absurd c
-  act-swap k e (ClearFlag n) g c = absurd c
-  act-swap k e FetchStatus g c = absurd c
-  act-swap k e FetchRxStatus g c = absurd c
-  act-swap k e (Refuse n) g c = idle-swap k e (Refuse n) refl refl refl
+  act-swap k e es (Modify a m b) g c = absurd c
+  act-swap k e es (RequestToSend m) g c = absurd c
+  act-swap k e es (ClearFlag n) g c = absurd c
+  act-swap k e es FetchStatus g c = absurd c
+  act-swap k e es FetchRxStatus g c = absurd c
+  act-swap k e es (Refuse n) g c = idle-swap k (e .rec) (Refuse n) refl refl refl
 
-  calms-swap : (c : Chip) (r e : List ℕ) → Good (c .core) → Event e → Calms c r → Swap c r e
-  calms-swap c r e g v q =
-      let w = act-swap (c .core) e (asked (c .select) r) g (q .calm) in
+  calms-swap : (c : Chip) (r : List ℕ) (x : Entry) (es : List Entry) → Good (c .core) → Event (x .rec) → Calms c r (x ∷ es) → Swap c r (x .rec)
+  calms-swap c r x es g v q =
+      let w = act-swap (c .core) x es (asked (c .select) r) g (q .calm) in
+      let e : List ℕ = x .rec in
       record {
         first = ap (λ (d : Chip). outcome d r) (event-next c e v) ∙ spi-out (eventStep c e .chip) r (q .spi)
             ∙ (λ t. record { refusal = refusalOf (asked (c .select) r); answer = w .same-reply t; matched = 0 }) ∙ sym (spi-out c r (q .spi));
@@ -386,10 +404,10 @@ module _ (F : CoreFacts) where
             ∙ sym (ap (λ (d : Chip). nextChip d r) (event-next c e v) ∙ spi-next (eventStep c e .chip) r (q .spi));
       }
 
-  calms-event : (c : Chip) (r e : List ℕ) → Event e → Calms c r → Calms (nextChip c e) r
-  calms-event c r e v q =
-      let w : Calms (eventStep c e .chip) r = record { spi = q .spi; calm = calm-happens (c .core) e (asked (c .select) r) (q .calm) } in
-      subst (λ (d : Chip). Calms d r) (sym (event-next c e v)) w
+  calms-event : (c : Chip) (r : List ℕ) (x : Entry) (es : List Entry) → Event (x .rec) → Calms c r (x ∷ es) → Calms (nextChip c (x .rec)) r es
+  calms-event c r x es v q =
+      let w : Calms (eventStep c (x .rec) .chip) r es = record { spi = q .spi; calm = calm-happens (c .core) x es (asked (c .select) r) (q .calm) } in
+      subst (λ (d : Chip). Calms d r es) (sym (event-next c (x .rec) v)) w
 
   good-step : (c : Chip) (r : List ℕ) → Good (c .core) → Good (nextChip c r .core)
   good-step c r g = go (isEvent (kindOf r)) refl
@@ -401,143 +419,244 @@ module _ (F : CoreFacts) where
       go true e = good (eventStep c r .chip) (event-next c r e) (good-event (c .core) r g)
       go false e = good (spiStep c r .chip) (spi-next c r e) (good-acted (asked (c .select) r) (c .core) g)
 
-  -- ---- what a session's command asks of the core
-  allowed-event : (m : Command) (k : Core) (e : List ℕ) → allowed k m ≡ true → allowed (eventOf k e .core) m ≡ true
-  allowed-event Reset k e h = h
-  allowed-event (Rts m) k e h = h
-  allowed-event UnknownCode k e h = h
-  allowed-event BitModify k e h = h
-  allowed-event Read k e h = h
-  allowed-event Write k e h = h
-  allowed-event ReadStatus k e h = h
-  allowed-event RxStatus k e h = h
-  allowed-event (ReadRxBuffer n a) k e h = full-event k e n h
-  allowed-event (LoadTxBuffer n a) k e h = free-event k e n h
+  -- ---- what a session's command asks of the core and of what is still to come
+  -- of a LOAD: a free buffer, and no fall on its enabled pin
+  allowed-load : (k : Core) (b : TxBuffer) (s : List Entry) → isFree k b && noFall b s ≡ true → (isFree k b ≡ true) × (noFall b s ≡ true)
+  allowed-load k b s h = (and-first (isFree k b) (noFall b s) h, and-second (isFree k b) (noFall b s) h)
 
-  allowed-first : (m : Command) (k : Core) → Good k → allowed k m ≡ true → allowed (acted (firstAct m) k) m ≡ true
-  allowed-first Reset k g h = h
-  allowed-first (Rts m) k g h = h
-  allowed-first UnknownCode k g h = h
-  allowed-first BitModify k g h = h
-  allowed-first Read k g h = h
-  allowed-first Write k g h = h
-  allowed-first ReadStatus k g h = h
-  allowed-first RxStatus k g h = h
-  allowed-first (ReadRxBuffer n a) k g h = ap (λ (z : Core). isFull (z .control) n) g ∙ h
-  allowed-first (LoadTxBuffer n a) k g h = ap (λ (z : Core). isFree z n) g ∙ h
+  load-allowed : (k : Core) (b : TxBuffer) (s : List Entry) → isFree k b ≡ true → noFall b s ≡ true → isFree k b && noFall b s ≡ true
+  load-allowed k b s p q = rw (p, q)
+
+  no-fall-head : (b : TxBuffer) (x : Entry) (s : List Entry) → noFall b (x ∷ s) ≡ true → (falls b x ≡ false) × (noFall b s ≡ true)
+  unfolding noFall
+  no-fall-head b x s h = (not-true _ (and-first (not (falls b x)) (noFall b s) h), and-second (not (falls b x)) (noFall b s) h)
+
+  -- the event at the head of what is to come asks for nothing
+  no-asks : (c : Chip) (e : List ℕ) (b : TxBuffer) → Event e → falls b (entry c e) ≡ false → asks (c .core) e b ≡ false
+  no-asks c e b v h =
+      ap (λ (d : Chip). fallsEnabled (c .core) b (levelOf (d .core .pins) b)) (sym (event-next c e v)) ∙ h
+
+  allowed-event : (m : Command) (c : Chip) (e : List ℕ) (s : List Entry) → Event e → allowed (c .core) (entry c e ∷ s) m ≡ true
+      → allowed (eventOf (c .core) e .core) s m ≡ true
+  allowed-event Reset c e s v h = h
+  allowed-event (Rts m) c e s v h = h
+  allowed-event UnknownCode c e s v h = h
+  allowed-event BitModify c e s v h = h
+  allowed-event Read c e s v h = h
+  allowed-event Write c e s v h = h
+  allowed-event ReadStatus c e s v h = h
+  allowed-event RxStatus c e s v h = h
+  allowed-event (ReadRxBuffer n a) c e s v h = full-event (c .core) e n h
+  allowed-event (LoadTxBuffer n a) c e s v h =
+      let w = allowed-load (c .core) n (entry c e ∷ s) h in
+      let z = no-fall-head n (entry c e) s (w .1) in
+      load-allowed (eventOf (c .core) e .core) n s (free-event (c .core) e n (no-asks c e n v (z .0)) (w .0)) (z .1)
+
+  -- what is no event moves on
+  allowed-tail : (m : Command) (k : Core) (x : Entry) (s : List Entry) → allowed k (x ∷ s) m ≡ true → allowed k s m ≡ true
+  allowed-tail Reset k x s h = h
+  allowed-tail (Rts m) k x s h = h
+  allowed-tail UnknownCode k x s h = h
+  allowed-tail BitModify k x s h = h
+  allowed-tail Read k x s h = h
+  allowed-tail Write k x s h = h
+  allowed-tail ReadStatus k x s h = h
+  allowed-tail RxStatus k x s h = h
+  allowed-tail (ReadRxBuffer n a) k x s h = h
+  allowed-tail (LoadTxBuffer n a) k x s h = let w = allowed-load k n (x ∷ s) h in load-allowed k n s (w .0) (no-fall-head n x s (w .1) .1)
+
+  allowed-first : (m : Command) (k : Core) (s : List Entry) → Good k → allowed k s m ≡ true → allowed (acted (firstAct m) k) s m ≡ true
+  allowed-first Reset k s g h = h
+  allowed-first (Rts m) k s g h = h
+  allowed-first UnknownCode k s g h = h
+  allowed-first BitModify k s g h = h
+  allowed-first Read k s g h = h
+  allowed-first Write k s g h = h
+  allowed-first ReadStatus k s g h = h
+  allowed-first RxStatus k s g h = h
+  allowed-first (ReadRxBuffer n a) k s g h = ap (λ (z : Core). isFull (z .control) n) g ∙ h
+  allowed-first (LoadTxBuffer n a) k s g h = ap (λ (z : Core). isFree z n && noFall n s) g ∙ h
+
+  -- ---- events that ask for nothing of a LOAD's buffer
+  abbrev Spares : Command → Core → List Entry → Type 0
+  Spares Reset k es = Unit {0}
+  Spares (Rts m) k es = Unit {0}
+  Spares UnknownCode k es = Unit {0}
+  Spares BitModify k es = Unit {0}
+  Spares Read k es = Unit {0}
+  Spares Write k es = Unit {0}
+  Spares ReadStatus k es = Unit {0}
+  Spares RxStatus k es = Unit {0}
+  Spares (ReadRxBuffer n a) k es = Unit {0}
+  Spares (LoadTxBuffer n a) k es = Unasked n k es
+
+  spares-none : (m : Command) (k : Core) → Spares m k []
+  spares-none Reset k = tt
+  spares-none (Rts m) k = tt
+  spares-none UnknownCode k = tt
+  spares-none BitModify k = tt
+  spares-none Read k = tt
+  spares-none Write k = tt
+  spares-none ReadStatus k = tt
+  spares-none RxStatus k = tt
+  spares-none (ReadRxBuffer n a) k = tt
+  spares-none (LoadTxBuffer n a) k = tt
+
+  spares-event : (m : Command) (c : Chip) (e : List ℕ) (s es : List Entry) → Event e → allowed (c .core) (entry c e ∷ s) m ≡ true
+      → Spares m (eventOf (c .core) e .core) es → Spares m (c .core) (entry c e ∷ es)
+  spares-event Reset c e s es v h t = tt
+  spares-event (Rts m) c e s es v h t = tt
+  spares-event UnknownCode c e s es v h t = tt
+  spares-event BitModify c e s es v h t = tt
+  spares-event Read c e s es v h t = tt
+  spares-event Write c e s es v h t = tt
+  spares-event ReadStatus c e s es v h t = tt
+  spares-event RxStatus c e s es v h t = tt
+  spares-event (ReadRxBuffer n a) c e s es v h t = tt
+  spares-event (LoadTxBuffer n a) c e s es v h t =
+      (no-asks c e n v (no-fall-head n (entry c e) s (allowed-load (c .core) n (entry c e ∷ s) h .1) .0), t)
+
+  -- a store into the free buffer changes nothing of that
+  unasked-store : (k : Core) (n : TxBuffer) (a v : ℕ) (es : List Entry) → Good k → isFree k n ≡ true → TxByte n a
+      → Unasked n (acted (Store a v) k) es → Unasked n k es
+  unasked-store k n a v [] g free t u = tt
+  unasked-store k n a v (e ∷ es) g free t u =
+      let z : asks k (e .rec) n ≡ false = sym (store-asks k (e .rec) n a v g free t) ∙ u .0 in (
+        z,
+        unasked-store (eventOf k (e .rec) .core) n a v es (good-event k (e .rec) g) (free-event k (e .rec) n z free) t
+            (subst (λ (j : Core). Unasked n j es) (store-event k (e .rec) n a v g free t z) (u .1)),
+      )
 
   -- A later exchange.
-  record More (m : Command) (j : ℕ) (k : Core) (i : Instruction) (x : ℕ) : Type 0 where
+  record More (m : Command) (j : ℕ) (k : Core) (s : List Entry) (i : Instruction) (x : ℕ) : Type 0 where
     come : Come m (suc j) (exchangeNext i x)
-    keeps : allowed (acted (exchangeAct i x) k) m ≡ true
-    calm : suc j < momentOf m → CalmAct k (exchangeAct i x)
+    keeps : allowed (acted (exchangeAct i x) k) s m ≡ true
+    calm : suc j < momentOf m → (es : List Entry) → Spares m (acted (exchangeAct i x) k) es → CalmAct k (exchangeAct i x) es × Spares m k es
     still : momentOf m ≤ j → isStill (exchangeAct i x) ≡ true
 
-  more : (extra : ℕ) (m : Command) (j : ℕ) (k : Core) (i : Instruction) (x : ℕ) → Good k → Reach m → suc j < most extra m
-      → Come m j i → allowed k m ≡ true → More m j k i x
-  more extra Reset j k i x g h l c p = rw c (record { come = refl; keeps = refl; calm = λ _. tt; still = λ _. refl })
-  more extra (Rts m) j k i x g h l c p = rw c (record { come = refl; keeps = refl; calm = λ _. tt; still = λ _. refl })
-  more extra UnknownCode j k i x g h l c p = rw c (record { come = refl; keeps = refl; calm = λ _. tt; still = λ _. refl })
-  more extra BitModify zero k i x g h l c p = rw c (record { come = (x % 128, refl); keeps = refl; calm = λ _. tt; still = λ _. refl })
-  more extra BitModify (suc zero) k i x g h l c p =
-      rw (c .1) (record { come = (c .0, x, refl); keeps = refl; calm = λ _. tt; still = λ _. refl })
-  more extra BitModify (suc (suc zero)) k i x g h l c p =
-      rw (c .2) (record { come = refl; keeps = refl; calm = λ h. absurd (omega arith); still = λ h. absurd (omega arith) })
-  more extra BitModify (suc (suc (suc j))) k i x g h l c p =
-      rw c (record { come = refl; keeps = refl; calm = λ _. tt; still = λ _. refl })
-  more extra Read zero k i x g h l c p = rw c (record { come = (x % 128, refl); keeps = refl; calm = λ _. tt; still = λ _. refl })
-  more extra Read (suc j) k i x g h l c p =
-      rw (c .1) (record { come = (rising (c .0), refl); keeps = refl; calm = λ h. absurd (omega arith); still = λ h. absurd (omega arith) })
-  more extra Write zero k i x g h l c p = rw c (record { come = (x % 128, refl); keeps = refl; calm = λ _. tt; still = λ _. refl })
-  more extra Write (suc j) k i x g h l c p =
-      rw (c .1) (record { come = (rising (c .0), refl); keeps = refl; calm = λ h. absurd (omega arith); still = λ h. absurd (omega arith) })
-  more extra ReadStatus j k i x g h l c p =
-      rw c (record { come = refl; keeps = refl; calm = λ h. absurd (omega arith); still = λ h. absurd (omega arith) })
-  more extra RxStatus j k i x g h l c p =
-      rw c (record { come = refl; keeps = refl; calm = λ h. absurd (omega arith); still = λ h. absurd (omega arith) })
-  more extra (ReadRxBuffer n a) j k i x g h l c p =
+  more : (extra : ℕ) (m : Command) (j : ℕ) (k : Core) (s : List Entry) (i : Instruction) (x : ℕ) → Good k → Reach m → suc j < most extra m
+      → Come m j i → allowed k s m ≡ true → More m j k s i x
+  more extra Reset j k s i x g h l c p = rw c (record { come = refl; keeps = refl; calm = λ _ es t. (tt, tt); still = λ _. refl })
+  more extra (Rts m) j k s i x g h l c p = rw c (record { come = refl; keeps = refl; calm = λ _ es t. (tt, tt); still = λ _. refl })
+  more extra UnknownCode j k s i x g h l c p = rw c (record { come = refl; keeps = refl; calm = λ _ es t. (tt, tt); still = λ _. refl })
+  more extra BitModify zero k s i x g h l c p = rw c (record { come = (x % 128, refl); keeps = refl; calm = λ _ es t. (tt, tt); still = λ _. refl })
+  more extra BitModify (suc zero) k s i x g h l c p =
+      rw (c .1) (record { come = (c .0, x, refl); keeps = refl; calm = λ _ es t. (tt, tt); still = λ _. refl })
+  more extra BitModify (suc (suc zero)) k s i x g h l c p =
+      rw (c .2) (record { come = refl; keeps = refl; calm = λ h es t. absurd (omega arith); still = λ h. absurd (omega arith) })
+  more extra BitModify (suc (suc (suc j))) k s i x g h l c p =
+      rw c (record { come = refl; keeps = refl; calm = λ _ es t. (tt, tt); still = λ _. refl })
+  more extra Read zero k s i x g h l c p = rw c (record { come = (x % 128, refl); keeps = refl; calm = λ _ es t. (tt, tt); still = λ _. refl })
+  more extra Read (suc j) k s i x g h l c p =
+      rw (c .1) (record { come = (rising (c .0), refl); keeps = refl; calm = λ h es t. absurd (omega arith); still = λ h. absurd (omega arith) })
+  more extra Write zero k s i x g h l c p = rw c (record { come = (x % 128, refl); keeps = refl; calm = λ _ es t. (tt, tt); still = λ _. refl })
+  more extra Write (suc j) k s i x g h l c p =
+      rw (c .1) (record { come = (rising (c .0), refl); keeps = refl; calm = λ h es t. absurd (omega arith); still = λ h. absurd (omega arith) })
+  more extra ReadStatus j k s i x g h l c p =
+      rw c (record { come = refl; keeps = refl; calm = λ h es t. absurd (omega arith); still = λ h. absurd (omega arith) })
+  more extra RxStatus j k s i x g h l c p =
+      rw c (record { come = refl; keeps = refl; calm = λ h es t. absurd (omega arith); still = λ h. absurd (omega arith) })
+  more extra (ReadRxBuffer n a) j k s i x g h l c p =
       let t : RxByte n (a + j) = record { from = omega arith; to = omega arith } in
       rw c (record {
         come = ap (λ (z : ℕ). ReadingBuffer n z) (rises a j (omega (arith, rx-low n)));
         keeps = ap (λ (z : Core). isFull (z .control) n) g ∙ p;
-        calm = λ _. (n, t, p);
+        calm = λ _ es u. ((n, t, p), tt);
         still = λ z. absurd (omega arith);
       })
-  more extra (LoadTxBuffer n a) j k i x g h l c p =
+  more extra (LoadTxBuffer n a) j k s i x g h l c p =
       let t : TxByte n (a + j) = record { from = omega arith; to = omega arith } in
+      let w = allowed-load k n s p in
       rw c (record {
         come = ap (λ (z : ℕ). Writing z) (rises a j (omega (arith, tx-low n)));
-        keeps = store-free k n (a + j) x g p t;
-        calm = λ _. (n, t, p);
+        keeps = load-allowed (acted (Store (a + j) x) k) n s (store-free k n (a + j) x g (w .0) t) (w .1);
+        calm = λ _ es u. let v = unasked-store k n (a + j) x es g (w .0) t u in ((n, t, w .0, v), v);
         still = λ z. absurd (omega arith);
       })
 
-  -- ---- the chip c of a session that began at c₀
-  abbrev Within : Chip → Stage → Chip → Type 0
-  Within c₀ fresh c = (c .select ≡ Lowered First) × ((m : Command) → allowed (c₀ .core) m ≡ true → allowed (c .core) m ≡ true)
-  Within c₀ (sofar m j) c = (i : Instruction) × (c .select ≡ Lowered i) × Come m j i × (allowed (c .core) m ≡ true) × Reach m
+  -- ---- the chip c of a session that began at c₀ and has the inside s₀, of which s is still to come
+  abbrev Within : Chip → List Entry → Stage → Chip → List Entry → Type 0
+  Within c₀ s₀ fresh c s = (c .select ≡ Lowered First) × ((m : Command) → allowed (c₀ .core) s₀ m ≡ true → allowed (c .core) s m ≡ true)
+  Within c₀ s₀ (sofar m j) c s = (i : Instruction) × (c .select ≡ Lowered i) × Come m j i × (allowed (c .core) s m ≡ true) × Reach m
 
-  within-low : (c : Chip) (r : List ℕ) → Good (c .core) → roleAt c r ≡ low → Within c fresh (nextChip c r) × Calms c r
-  within-low c r g e = go (c .select) refl (accepted-as c r low refl e)
+  within-low : (c : Chip) (s : List Entry) (r : List ℕ) → Good (c .core) → roleAt c r ≡ low
+      → Within c s fresh (nextChip c r) s × ((es : List Entry) → Calms c r es)
+  within-low c s r g e = go (c .select) refl (accepted-as c r low refl e)
     where
-      go : (s : Select) → c .select ≡ s → Accepted c r SelectLow → Within c fresh (nextChip c r) × Calms c r
+      go : (x : Select) → c .select ≡ x → Accepted c r SelectLow → Within c s fresh (nextChip c r) s × ((es : List Entry) → Calms c r es)
       go Raised es a =
-          let w : Within c fresh (chip (acted Rest (c .core)) First) = (refl, λ m h. ap (λ (k : Core). allowed k m) g ∙ h) in (
-            subst (λ (d : Chip). Within c fresh d) (sym (accepted-next c r SelectLow Raised a es)) w,
-            record { spi = a .plain; calm = rw (accepted-asks c r SelectLow Raised a es) tt },
+          let w : Within c s fresh (chip (acted Rest (c .core)) First) s = (refl, λ m h. ap (λ (k : Core). allowed k s m) g ∙ h) in (
+            subst (λ (d : Chip). Within c s fresh d s) (sym (accepted-next c r SelectLow Raised a es)) w,
+            λ _. record { spi = a .plain; calm = rw (accepted-asks c r SelectLow Raised a es) tt },
           )
       go (Lowered i) es a = clash (sym (rw es at (a .taken)))
 
-  within-event : (c₀ : Chip) (σ : Stage) (c : Chip) (e : List ℕ) → Event e → Within c₀ σ c → Within c₀ σ (nextChip c e)
-  within-event c₀ σ c e v w = subst (λ (d : Chip). Within c₀ σ d) (sym (event-next c e v)) (go σ w)
+  within-event : (c₀ : Chip) (s₀ : List Entry) (σ : Stage) (c : Chip) (s : List Entry) (e : List ℕ) → Event e
+      → Within c₀ s₀ σ c (entry c e ∷ s) → Within c₀ s₀ σ (nextChip c e) s
+  within-event c₀ s₀ σ c s e v w = subst (λ (d : Chip). Within c₀ s₀ σ d s) (sym (event-next c e v)) (go σ w)
     where
-      go : (σ : Stage) → Within c₀ σ c → Within c₀ σ (eventStep c e .chip)
-      go fresh w = (w .0, λ m h. allowed-event m (c .core) e (w .1 m h))
-      go (sofar m j) w = (w .0, w .1, w .2, allowed-event m (c .core) e (w .3), w .4)
+      go : (σ : Stage) → Within c₀ s₀ σ c (entry c e ∷ s) → Within c₀ s₀ σ (eventStep c e .chip) s
+      go fresh w = (w .0, λ m h. allowed-event m c e s v (w .1 m h))
+      go (sofar m j) w = (w .0, w .1, w .2, allowed-event m c e s v (w .3), w .4)
 
-  within-select : (c₀ : Chip) (σ : Stage) (c : Chip) → Within c₀ σ c → (i : Instruction) × (c .select ≡ Lowered i)
-  within-select c₀ fresh c w = (First, w .0)
-  within-select c₀ (sofar m j) c w = (w .0, w .1)
+  within-spared : (c₀ : Chip) (s₀ : List Entry) (m : Command) (j : ℕ) (c : Chip) (s : List Entry) (e : List ℕ) (es : List Entry) → Event e
+      → Within c₀ s₀ (sofar m j) c (entry c e ∷ s) → Spares m (nextChip c e .core) es → Spares m (c .core) (entry c e ∷ es)
+  within-spared c₀ s₀ m j c s e es v w t =
+      spares-event m c e s es v (w .3) (subst (λ (d : Chip). Spares m (d .core) es) (event-next c e v) t)
 
-  within-other : (c₀ : Chip) (σ : Stage) (c : Chip) (r : List ℕ) → isOther (roleAt c r) ≡ true → Within c₀ σ c
-      → Within c₀ σ (nextChip c r) × Quiets c r
-  within-other c₀ σ c r h w =
-      let s = within-select c₀ σ c w in
-      let at : chip (c .core) (s .0) ≡ c = λ t. record { core = c .core; select = sym (s .1) t } in
-      let o = subst (λ (d : Chip). isOther (roleAt d r) ≡ true → (nextChip d r ≡ d) × Quiets d r) at (other-step (c .core) (s .0) r) h in
-      (subst (λ (d : Chip). Within c₀ σ d) (sym (o .0)) w, o .1)
+  within-select : (c₀ : Chip) (s₀ : List Entry) (σ : Stage) (c : Chip) (s : List Entry) → Within c₀ s₀ σ c s → (i : Instruction) × (c .select ≡ Lowered i)
+  within-select c₀ s₀ fresh c s w = (First, w .0)
+  within-select c₀ s₀ (sofar m j) c s w = (w .0, w .1)
 
-  within-first : (c₀ c : Chip) (r : List ℕ) → Good (c .core) → roleAt c r ≡ exchange → allowed (c₀ .core) (named r) ≡ true
-      → Within c₀ fresh c → Within c₀ (sofar (named r) 0) (nextChip c r) × (0 < momentOf (named r) → Calms c r)
-  within-first c₀ c r g e h w =
+  within-tail : (c₀ : Chip) (s₀ : List Entry) (σ : Stage) (c : Chip) (x : Entry) (s : List Entry) → Within c₀ s₀ σ c (x ∷ s) → Within c₀ s₀ σ c s
+  within-tail c₀ s₀ fresh c x s w = (w .0, λ m h. allowed-tail m (c .core) x s (w .1 m h))
+  within-tail c₀ s₀ (sofar m j) c x s w = (w .0, w .1, w .2, allowed-tail m (c .core) x s (w .3), w .4)
+
+  within-other : (c₀ : Chip) (s₀ : List Entry) (σ : Stage) (c : Chip) (s : List Entry) (r : List ℕ) → isOther (roleAt c r) ≡ true
+      → Within c₀ s₀ σ c (entry c r ∷ s) → Within c₀ s₀ σ (nextChip c r) s × Quiets c r × (nextChip c r ≡ c)
+  within-other c₀ s₀ σ c s r h w =
+      let z = within-select c₀ s₀ σ c (entry c r ∷ s) w in
+      let at : chip (c .core) (z .0) ≡ c = λ t. record { core = c .core; select = sym (z .1) t } in
+      let o = subst (λ (d : Chip). isOther (roleAt d r) ≡ true → (nextChip d r ≡ d) × Quiets d r) at (other-step (c .core) (z .0) r) h in
+      (subst (λ (d : Chip). Within c₀ s₀ σ d s) (sym (o .0)) (within-tail c₀ s₀ σ c (entry c r) s w), o .1, o .0)
+
+  within-first : (c₀ : Chip) (s₀ : List Entry) (c : Chip) (s : List Entry) (r : List ℕ) → Good (c .core) → roleAt c r ≡ exchange
+      → allowed (c₀ .core) s₀ (named r) ≡ true → Within c₀ s₀ fresh c (entry c r ∷ s)
+      → Within c₀ s₀ (sofar (named r) 0) (nextChip c r) s × (0 < momentOf (named r) → (es : List Entry) → Calms c r es)
+  within-first c₀ s₀ c s r g e h w =
       let m : Command = named r in
       let a : Accepted c r Exchange = accepted-as c r exchange refl e in
-      let p : Within c₀ (sofar m 0) (chip (acted (firstAct m) (c .core)) (opened m)) =
-      (opened m, refl, come-first m, allowed-first m (c .core) g (w .1 m h), reach (byteAt r 1)) in (
-        subst (λ (d : Chip). Within c₀ (sofar m 0) d) (sym (accepted-next c r Exchange (Lowered First) a (w .0))) p,
-        λ z. record { spi = a .plain; calm = rw (accepted-asks c r Exchange (Lowered First) a (w .0)) (calm-first m (c .core) z) },
+      let p : Within c₀ s₀ (sofar m 0) (chip (acted (firstAct m) (c .core)) (opened m)) s =
+      (opened m, refl, come-first m, allowed-first m (c .core) s g (allowed-tail m (c .core) (entry c r) s (w .1 m h)), reach (byteAt r 1)) in (
+        subst (λ (d : Chip). Within c₀ s₀ (sofar m 0) d s) (sym (accepted-next c r Exchange (Lowered First) a (w .0))) p,
+        λ z es. record { spi = a .plain; calm = rw (accepted-asks c r Exchange (Lowered First) a (w .0)) (calm-first m (c .core) es z) },
       )
 
   module _ (extra : ℕ) where
-    within-next : (c₀ c : Chip) (m : Command) (j : ℕ) (r : List ℕ) → Good (c .core) → roleAt c r ≡ exchange → suc j < most extra m
-        → Within c₀ (sofar m j) c
-        → Within c₀ (sofar m (suc j)) (nextChip c r) × (suc j < momentOf m → Calms c r) × (momentOf m ≤ j → Quiets c r)
-    within-next c₀ c m j r g e l w =
+    within-next : (c₀ : Chip) (s₀ : List Entry) (c : Chip) (s : List Entry) (m : Command) (j : ℕ) (r : List ℕ) → Good (c .core) → roleAt c r ≡ exchange
+        → suc j < most extra m → Within c₀ s₀ (sofar m j) c (entry c r ∷ s)
+        → Within c₀ s₀ (sofar m (suc j)) (nextChip c r) s
+        × (suc j < momentOf m → (es : List Entry) → Spares m (nextChip c r .core) es → Calms c r es × Spares m (c .core) es)
+        × (momentOf m ≤ j → Quiets c r)
+    within-next c₀ s₀ c s m j r g e l w =
         let i : Instruction = w .0 in
         let x : ℕ = byteAt r 1 in
         let a : Accepted c r Exchange = accepted-as c r exchange refl e in
-        let n : More m j (c .core) i x = more extra m j (c .core) i x g (w .4) l (w .2) (w .3) in
-        let p : Within c₀ (sofar m (suc j)) (chip (acted (exchangeAct i x) (c .core)) (exchangeNext i x)) =
+        let n : More m j (c .core) s i x = more extra m j (c .core) s i x g (w .4) l (w .2) (allowed-tail m (c .core) (entry c r) s (w .3)) in
+        let p : Within c₀ s₀ (sofar m (suc j)) (chip (acted (exchangeAct i x) (c .core)) (exchangeNext i x)) s =
         (exchangeNext i x, refl, n .come, n .keeps, w .4) in
+        let to : nextChip c r ≡ chip (acted (exchangeAct i x) (c .core)) (exchangeNext i x) = accepted-next c r Exchange (Lowered i) a (w .1) in
         let q : asked (c .select) r ≡ exchangeAct i x = accepted-asks c r Exchange (Lowered i) a (w .1) in (
-          subst (λ (d : Chip). Within c₀ (sofar m (suc j)) d) (sym (accepted-next c r Exchange (Lowered i) a (w .1))) p,
-          (λ z. record { spi = a .plain; calm = rw q (n .calm z) }),
+          subst (λ (d : Chip). Within c₀ s₀ (sofar m (suc j)) d s) (sym to) p,
+          (λ z es t.
+              let u = n .calm z es (subst (λ (d : Chip). Spares m (d .core) es) to t) in
+              (record { spi = a .plain; calm = rw q (u .0) }, u .1)),
           (λ z. record { spi = a .plain; still = rw q (n .still z) }),
         )
 
-    within-high : (c₀ c : Chip) (m : Command) (j : ℕ) (r : List ℕ) → roleAt c r ≡ high → momentOf m ≤ j → j < most extra m
-        → Within c₀ (sofar m j) c → Quiets c r
-    within-high c₀ c m j r e h l w =
+    within-high : (c₀ : Chip) (s₀ : List Entry) (c : Chip) (s : List Entry) (m : Command) (j : ℕ) (r : List ℕ) → roleAt c r ≡ high
+        → momentOf m ≤ j → j < most extra m → Within c₀ s₀ (sofar m j) c s → Quiets c r
+    within-high c₀ s₀ c s m j r e h l w =
         let a : Accepted c r SelectHigh = accepted-as c r high refl e in
         let q : asked (c .select) r ≡ highAct (w .0) = accepted-asks c r SelectHigh (Lowered (w .0)) a (w .1) in
         record { spi = a .plain; still = rw q (high-still extra m j (w .0) h l (w .2)) }
@@ -553,17 +672,20 @@ module _ (F : CoreFacts) where
       good-next = good-step;
       Calm = Calms;
       calm-swap = calms-swap;
-      calm-event = λ c r e g v q. calms-event c r e v q;
+      calm-event = λ c r e es g v q. calms-event c r e es v q;
       Quiet = Quiets;
       quiet-calm = quiets-calm;
       quiet-back = λ c r e g v q. quiets-back c r e v q;
+      Spared = λ m c es. Spares m (c .core) es;
+      spared-none = λ m c. spares-none m (c .core);
       Inside = Within;
       inside-low = within-low;
-      inside-event = λ c₀ σ c e g v w. within-event c₀ σ c e v w;
-      inside-other = λ c₀ σ c r g h w. within-other c₀ σ c r h w;
+      inside-event = λ c₀ s₀ σ c s e g v w. within-event c₀ s₀ σ c s e v w;
+      spared-event = within-spared;
+      inside-other = within-other;
       inside-first = within-first;
       inside-next = within-next;
-      inside-high = λ c₀ c m j r g e h l w. within-high c₀ c m j r e h l w;
+      inside-high = within-high;
     }
 
     -- Demand 3, for however many bytes past the last are let in.

@@ -52,10 +52,11 @@ beyond c r (suc (suc (suc (suc zero)))) e h = rw e
 beyond c r (suc (suc (suc (suc (suc zero))))) e h = rw e
 beyond c r (suc (suc (suc (suc (suc (suc zero)))))) e h = rw e
 beyond c r (suc (suc (suc (suc (suc (suc (suc zero))))))) e h = rw e
-beyond c r (suc (suc (suc (suc (suc (suc (suc (suc n)))))))) e h = unknown-side c r (e ∙ simp (apart 0 (omega arith), apart 1 (omega arith), apart 2 (omega arith), apart 3 (omega arith), apart 4 (omega arith), apart 5 (omega arith), apart 6 (omega arith), apart 7 (omega arith)))
+beyond c r (suc (suc (suc (suc (suc (suc (suc (suc zero)))))))) e h = rw e
+beyond c r (suc (suc (suc (suc (suc (suc (suc (suc (suc n))))))))) e h = unknown-side c r (e ∙ simp (apart 0 (omega arith), apart 1 (omega arith), apart 2 (omega arith), apart 3 (omega arith), apart 4 (omega arith), apart 5 (omega arith), apart 6 (omega arith), apart 7 (omega arith), apart 8 (omega arith)))
   where
-    apart : (k : ℕ) → k < 8 → eqb (suc (suc (suc (suc (suc (suc (suc (suc n)))))))) k ≡ false
-    apart k p = ne-eqb (suc (suc (suc (suc (suc (suc (suc (suc n)))))))) k (λ e. omega arith)
+    apart : (k : ℕ) → k < 9 → eqb (suc (suc (suc (suc (suc (suc (suc (suc (suc n))))))))) k ≡ false
+    apart k p = ne-eqb (suc (suc (suc (suc (suc (suc (suc (suc (suc n))))))))) k (λ e. omega arith)
 
 kind-of : (f : Fields) → kindOf (recordOf f) ≡ kindBy (f .kind)
 unfolding kindOf recordOf

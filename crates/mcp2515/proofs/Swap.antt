@@ -9,14 +9,14 @@ use lib.Seq.{append-snoc}
 use lib.Dec.{eqb, leb, leb→le}
 use native.Mathlib.Omega.{arith}
 use Rattle.records.specs.declared.Kind.{Kind}
-use Rattle.records.specs.declared.Kind.the-variants.{SelectLow, Exchange, SelectHigh, FrameHeard, BusIdle, FrameEnds, ReceiveError, Recovery, Unknown}
+use Rattle.records.specs.declared.Kind.the-variants.{SelectLow, Exchange, SelectHigh, FrameHeard, BusIdle, FrameEnds, ReceiveError, Recovery, PinLevel, Unknown}
 use Rattle.records.specs.Records.{byteAt, kindOf, isEvent}
 use Rattle.spi.specs.declared.Command.{Command}
 use Rattle.mcp2515.specs.declared.Chip.{Chip}
 use Rattle.spi.specs.Instructions.{commandOf}
 use Rattle.records.specs.declared.Outcome.{Outcome}
 use Rattle.mcp2515.specs.Step.{powerOn, nextChip, outcome, chipAfter, outcomes}
-use Rattle.mcp2515.specs.Moments.{Role, event, low, exchange, high, other, acceptedRole, roleOf, isEventRole, isLow, isHigh, Entry, roleIn, trace, most, momentOf, allowed, listed, events, others, bytes, before, after, placed, session, outside, inside, tidyFrom, tidy, records, outs, Demand3For}
+use Rattle.mcp2515.specs.Moments.{Role, event, low, exchange, high, other, acceptedRole, roleOf, isEventRole, isLow, isHigh, Entry, roleIn, trace, most, momentOf, allowed, listedBy, listed, events, others, bytes, before, after, placed, session, outside, inside, tidyFrom, tidy, records, outs, Demand3For}
 
 -- How far a session has come: no exchange yet, or j exchanges behind the first, which named this command.
 pub data Stage : Type 0 where
@@ -42,6 +42,10 @@ roleAt c r = roleOf r (outcome c r)
 abbrev pub named : List ℕ → Command
 named r = commandOf (byteAt r 1)
 
+-- The record r met by the chip c.
+abbrev pub entry : Chip → List ℕ → Entry
+entry c r = record { met = c; rec = r; out = outcome c r }
+
 -- At the chip c the record r and the event e may change places.
 pub record Swap (c : Chip) (r e : List ℕ) : Type 0 where
   pub first : outcome (nextChip c e) r ≡ outcome c r
@@ -53,27 +57,39 @@ pub record Laws (extra : ℕ) : Type 1 where
   pub Good : Chip → Type 0
   pub good-start : Good powerOn
   pub good-next : (c : Chip) (r : List ℕ) → Good c → Good (nextChip c r)
-  -- the record may change places with any event that follows it
-  pub Calm : Chip → List ℕ → Type 0
-  pub calm-swap : (c : Chip) (r e : List ℕ) → Good c → Event e → Calm c r → Swap c r e
-  pub calm-event : (c : Chip) (r e : List ℕ) → Good c → Event e → Calm c r → Calm (nextChip c e) r
+  -- the record may change places with these events that follow it, one after the other
+  pub Calm : Chip → List ℕ → List Entry → Type 0
+  pub calm-swap : (c : Chip) (r : List ℕ) (e : Entry) (es : List Entry) → Good c → Event (e .rec) → Calm c r (e ∷ es) → Swap c r (e .rec)
+  pub calm-event : (c : Chip) (r : List ℕ) (e : Entry) (es : List Entry) → Good c → Event (e .rec) → Calm c r (e ∷ es)
+      → Calm (nextChip c (e .rec)) r es
   -- the record does not touch what an event looks at
   pub Quiet : Chip → List ℕ → Type 0
-  pub quiet-calm : (c : Chip) (r : List ℕ) → Quiet c r → Calm c r
+  pub quiet-calm : (c : Chip) (r : List ℕ) (es : List Entry) → Quiet c r → Calm c r es
   pub quiet-back : (c : Chip) (r e : List ℕ) → Good c → Event e → Quiet (nextChip c e) r → Quiet c r
-  -- the chip c of a session that began at the chip c₀ and has come so far, as long as the session is listed
-  pub Inside : Chip → Stage → Chip → Type 0
-  pub inside-low : (c : Chip) (r : List ℕ) → Good c → roleAt c r ≡ low → Inside c fresh (nextChip c r) × Calm c r
-  pub inside-event : (c₀ : Chip) (σ : Stage) (c : Chip) (e : List ℕ) → Good c → Event e → Inside c₀ σ c → Inside c₀ σ (nextChip c e)
-  pub inside-other : (c₀ : Chip) (σ : Stage) (c : Chip) (r : List ℕ) → Good c → isOther (roleAt c r) ≡ true → Inside c₀ σ c
-      → Inside c₀ σ (nextChip c r) × Quiet c r
-  pub inside-first : (c₀ c : Chip) (r : List ℕ) → Good c → roleAt c r ≡ exchange → allowed (c₀ .core) (named r) ≡ true → Inside c₀ fresh c
-      → Inside c₀ (sofar (named r) 0) (nextChip c r) × (0 < momentOf (named r) → Calm c r)
-  pub inside-next : (c₀ c : Chip) (m : Command) (j : ℕ) (r : List ℕ) → Good c → roleAt c r ≡ exchange → suc j < most extra m
-      → Inside c₀ (sofar m j) c
-      → Inside c₀ (sofar m (suc j)) (nextChip c r) × (suc j < momentOf m → Calm c r) × (momentOf m ≤ j → Quiet c r)
-  pub inside-high : (c₀ c : Chip) (m : Command) (j : ℕ) (r : List ℕ) → Good c → roleAt c r ≡ high → momentOf m ≤ j → j < most extra m
-      → Inside c₀ (sofar m j) c → Quiet c r
+  -- run from the chip, these events ask for nothing that the command forbids
+  pub Spared : Command → Chip → List Entry → Type 0
+  pub spared-none : (m : Command) (c : Chip) → Spared m c []
+  -- the chip c of a session that began at the chip c₀, has the inside s₀ and has come so far, with s still to come, as long as the
+  -- session is listed
+  pub Inside : Chip → List Entry → Stage → Chip → List Entry → Type 0
+  pub inside-low : (c : Chip) (s : List Entry) (r : List ℕ) → Good c → roleAt c r ≡ low
+      → Inside c s fresh (nextChip c r) s × ((es : List Entry) → Calm c r es)
+  pub inside-event : (c₀ : Chip) (s₀ : List Entry) (σ : Stage) (c : Chip) (s : List Entry) (e : List ℕ) → Good c → Event e
+      → Inside c₀ s₀ σ c (entry c e ∷ s) → Inside c₀ s₀ σ (nextChip c e) s
+  pub spared-event : (c₀ : Chip) (s₀ : List Entry) (m : Command) (j : ℕ) (c : Chip) (s : List Entry) (e : List ℕ) (es : List Entry) → Event e
+      → Inside c₀ s₀ (sofar m j) c (entry c e ∷ s) → Spared m (nextChip c e) es → Spared m c (entry c e ∷ es)
+  pub inside-other : (c₀ : Chip) (s₀ : List Entry) (σ : Stage) (c : Chip) (s : List Entry) (r : List ℕ) → isOther (roleAt c r) ≡ true
+      → Inside c₀ s₀ σ c (entry c r ∷ s) → Inside c₀ s₀ σ (nextChip c r) s × Quiet c r × (nextChip c r ≡ c)
+  pub inside-first : (c₀ : Chip) (s₀ : List Entry) (c : Chip) (s : List Entry) (r : List ℕ) → Good c → roleAt c r ≡ exchange
+      → allowed (c₀ .core) s₀ (named r) ≡ true → Inside c₀ s₀ fresh c (entry c r ∷ s)
+      → Inside c₀ s₀ (sofar (named r) 0) (nextChip c r) s × (0 < momentOf (named r) → (es : List Entry) → Calm c r es)
+  pub inside-next : (c₀ : Chip) (s₀ : List Entry) (c : Chip) (s : List Entry) (m : Command) (j : ℕ) (r : List ℕ) → Good c → roleAt c r ≡ exchange
+      → suc j < most extra m → Inside c₀ s₀ (sofar m j) c (entry c r ∷ s)
+      → Inside c₀ s₀ (sofar m (suc j)) (nextChip c r) s
+      × (suc j < momentOf m → (es : List Entry) → Spared m (nextChip c r) es → Calm c r es × Spared m c es)
+      × (momentOf m ≤ j → Quiet c r)
+  pub inside-high : (c₀ : Chip) (s₀ : List Entry) (c : Chip) (s : List Entry) (m : Command) (j : ℕ) (r : List ℕ) → roleAt c r ≡ high
+      → momentOf m ≤ j → j < most extra m → Inside c₀ s₀ (sofar m j) c s → Quiet c r
 
 -- ---- roles
 event-only : (ρ : Role) → isEventRole ρ ≡ true → ρ ≡ event
@@ -106,6 +122,7 @@ accepted-event BusIdle e = refl
 accepted-event FrameEnds e = refl
 accepted-event ReceiveError e = refl
 accepted-event Recovery e = refl
+accepted-event PinLevel e = refl
 accepted-event Unknown e = cc
 
 -- Only an event has the role of one.
@@ -128,9 +145,6 @@ true-false : true ≡ false → ⊥
 true-false e = let z : _≡_ {A = ℕ} 0 1 = cc in omega arith
 
 -- ---- runs
-abbrev entry : Chip → List ℕ → Entry
-entry c r = record { met = c; rec = r; out = outcome c r }
-
 -- Run from c, the records of the list get the outcomes of the list and end at d.
 abbrev Fits : Chip → List Entry → Chip → Type 0
 Fits c [] d = c ≡ d
@@ -191,17 +205,17 @@ regroup : (a : List Entry) (l : Entry) (s : List Entry) (h : Entry) (z rest : Li
 regroup a l s h z rest = simp append-assoc
 
 module _ (extra : ℕ) (L : Laws extra) where
-  open Laws L using (Good, good-start, good-next, Calm, calm-swap, calm-event, Quiet, quiet-calm, quiet-back, Inside, inside-low, inside-event, inside-other, inside-first, inside-next, inside-high)
+  open Laws L using (Good, good-start, good-next, Calm, calm-swap, calm-event, Quiet, quiet-calm, quiet-back, Spared, spared-none, Inside, inside-low, inside-event, spared-event, inside-other, inside-first, inside-next, inside-high)
 
   -- ---- moving one record
   -- A calm record moves behind the events that follow it.
-  behind : (c d : Chip) (x : Entry) (es rest : List Entry) → Good c → Calm c (x .rec) → AllEvents es
+  behind : (c d : Chip) (x : Entry) (es rest : List Entry) → Good c → Calm c (x .rec) es → AllEvents es
       → Fits c (x ∷ (es ++ rest)) d → Fits c (es ++ (x ∷ rest)) d
   behind c d x [] rest g k a f = f
   behind c d x (e ∷ es) rest g k a f =
-      let sw : Swap c (x .rec) (e .rec) = calm-swap c (x .rec) (e .rec) g (a .0) k in (
+      let sw : Swap c (x .rec) (e .rec) = calm-swap c (x .rec) e es g (a .0) k in (
         sym (sw .second) ∙ f .1 .0,
-        behind (nextChip c (e .rec)) d x es rest (good-next c (e .rec) g) (calm-event c (x .rec) (e .rec) g (a .0) k) (a .1)
+        behind (nextChip c (e .rec)) d x es rest (good-next c (e .rec) g) (calm-event c (x .rec) e es g (a .0) k) (a .1)
             (sw .first ∙ f .0, subst (λ (b : Chip). Fits b (es ++ rest) d) (sw .both) (f .1 .1)),
       )
 
@@ -210,11 +224,15 @@ module _ (extra : ℕ) (L : Laws extra) where
   QuietRun c [] = Unit {0}
   QuietRun c (x ∷ xs) = Quiet c (x .rec) × QuietRun (nextChip c (x .rec)) xs
 
+  -- A quiet record changes places with any event.
+  quiet-swap : (c : Chip) (r e : List ℕ) → Good c → Event e → Quiet c r → Swap c r e
+  quiet-swap c r e g ev q = calm-swap c r (entry c e) [] g ev (quiet-calm c r (entry c e ∷ []) q)
+
   quiet-run-back : (c : Chip) (e : List ℕ) (ys : List Entry) → Good c → Event e → QuietRun (nextChip c e) ys → QuietRun c ys
   quiet-run-back c e [] g ev q = tt
   quiet-run-back c e (y ∷ ys) g ev q =
       let k : Quiet c (y .rec) = quiet-back c (y .rec) e g ev (q .0) in
-      let sw : Swap c (y .rec) e = calm-swap c (y .rec) e g ev (quiet-calm c (y .rec) k) in
+      let sw : Swap c (y .rec) e = quiet-swap c (y .rec) e g ev k in
       (k, quiet-run-back (nextChip c (y .rec)) e ys (good-next c (y .rec) g) ev (subst (λ (b : Chip). QuietRun b ys) (sym (sw .both)) (q .1)))
 
   -- An event moves behind the quiet records that follow it.
@@ -222,7 +240,7 @@ module _ (extra : ℕ) (L : Laws extra) where
       → Fits c (x ∷ (ys ++ rest)) d → Fits c (ys ++ (x ∷ rest)) d
   event-behind c d x [] rest g ev q f = f
   event-behind c d x (y ∷ ys) rest g ev q f =
-      let sw : Swap c (y .rec) (x .rec) = calm-swap c (y .rec) (x .rec) g ev (quiet-calm c (y .rec) (q .0)) in (
+      let sw : Swap c (y .rec) (x .rec) = quiet-swap c (y .rec) (x .rec) g ev (q .0) in (
         sym (sw .first) ∙ f .1 .0,
         event-behind (nextChip c (y .rec)) d x ys rest (good-next c (y .rec) g) ev (q .1)
             (sw .second ∙ f .0, subst (λ (b : Chip). Fits b (ys ++ rest) d) (sym (sw .both)) (f .1 .1)),
@@ -255,8 +273,8 @@ module _ (extra : ℕ) (L : Laws extra) where
   abbrev Ready : ℕ → Chip → List Entry → Entry → Type 0
   Ready k c [] h = Unit {0}
   Ready k c (x ∷ s) h =
-      at-ready (roleIn x) (Calm c (x .rec)) (Ready k (nextChip c (x .rec)) s h)
-      (elim k [ zero ↦ Still (nextChip c (x .rec)) s h | suc j ↦ Calm c (x .rec) × Ready j (nextChip c (x .rec)) s h ])
+      at-ready (roleIn x) (Calm c (x .rec) (events (before k s))) (Ready k (nextChip c (x .rec)) s h)
+      (elim k [ zero ↦ Still (nextChip c (x .rec)) s h | suc j ↦ Calm c (x .rec) (events (before j s)) × Ready j (nextChip c (x .rec)) s h ])
 
   -- The events after the moment go behind select high.
   late : (c d : Chip) (s : List Entry) (h : Entry) (rest : List Entry) → Good c → Still c s h
@@ -291,14 +309,14 @@ module _ (extra : ℕ) (L : Laws extra) where
       Next : ℕ → Type 0
       Next j = Fits (nextChip c (x .rec)) (events (before j s) ++ (others s ++ (h ∷ (events (after j s) ++ rest)))) d
 
-      calm : (j : ℕ) → Calm c (x .rec) → Next j
+      calm : (j : ℕ) → Calm c (x .rec) (events (before j s)) → Next j
           → Fits c (events (before j s) ++ (x ∷ (others s ++ (h ∷ (events (after j s) ++ rest))))) d
       calm j q i =
           behind c d x (events (before j s)) (others s ++ (h ∷ (events (after j s) ++ rest))) g q (all-events (before j s)) (f .0, i)
 
       go : (ρ : Role) → roleIn x ≡ ρ → (k : ℕ)
-          → at-ready ρ (Calm c (x .rec)) (Ready k (nextChip c (x .rec)) s h)
-          (elim k [ zero ↦ Still (nextChip c (x .rec)) s h | suc j ↦ Calm c (x .rec) × Ready j (nextChip c (x .rec)) s h ])
+          → at-ready ρ (Calm c (x .rec) (events (before k s))) (Ready k (nextChip c (x .rec)) s h)
+          (elim k [ zero ↦ Still (nextChip c (x .rec)) s h | suc j ↦ Calm c (x .rec) (events (before j s)) × Ready j (nextChip c (x .rec)) s h ])
           → ((j : ℕ) → Ready j (nextChip c (x .rec)) s h → Next j)
           → Fits c (events (before k (x ∷ s)) ++ (others (x ∷ s) ++ (h ∷ (events (after k (x ∷ s)) ++ rest)))) d
       go event e k t n = rw (e, e) (f .0, n k t)
@@ -309,97 +327,124 @@ module _ (extra : ℕ) (L : Laws extra) where
       go exchange e (suc k) t n = rw (e, e) (calm k (t .0) (n k (t .1)))
 
   -- ---- a listed session is ready
-  still-inside : (c₀ c : Chip) (m : Command) (j : ℕ) (qs : List (List ℕ)) (h : List ℕ) → Good c → NoHigh c qs
-      → roleAt (chipAfter c qs) h ≡ high → momentOf m ≤ j → j + length (bytes (trace c qs)) < most extra m → Inside c₀ (sofar m j) c
-      → Still c (trace c qs) (entry (chipAfter c qs) h)
+  still-inside : (c₀ : Chip) (s₀ : List Entry) (c : Chip) (m : Command) (j : ℕ) (qs : List (List ℕ)) (h : List ℕ) → Good c → NoHigh c qs
+      → roleAt (chipAfter c qs) h ≡ high → momentOf m ≤ j → j + length (bytes (trace c qs)) < most extra m
+      → Inside c₀ s₀ (sofar m j) c (trace c qs) → Still c (trace c qs) (entry (chipAfter c qs) h)
   unfolding trace chipAfter bytes
-  still-inside c₀ c m j [] h g n eh p le i = inside-high c₀ c m j h g eh p (omega arith) i
-  still-inside c₀ c m j (r ∷ qs) h g n eh p le i =
-      go (roleAt c r) refl (λ j′ p′ t l. still-inside c₀ (nextChip c r) m j′ qs h (good-next c r g) (n .1) eh p′ l t)
+  still-inside c₀ s₀ c m j [] h g n eh p le i = inside-high c₀ s₀ c [] m j h eh p (omega arith) i
+  still-inside c₀ s₀ c m j (r ∷ qs) h g n eh p le i =
+      go (roleAt c r) refl (λ j′ p′ t l. still-inside c₀ s₀ (nextChip c r) m j′ qs h (good-next c r g) (n .1) eh p′ l t)
     where
+      s : List Entry
+      s = trace (nextChip c r) qs
+
       Next : Type 0
       Next = Still (nextChip c r) (trace (nextChip c r) qs) (entry (chipAfter (nextChip c r) qs) h)
 
       go : (ρ : Role) → roleAt c r ≡ ρ
-          → ((j′ : ℕ) → momentOf m ≤ j′ → Inside c₀ (sofar m j′) (nextChip c r)
+          → ((j′ : ℕ) → momentOf m ≤ j′ → Inside c₀ s₀ (sofar m j′) (nextChip c r) (trace (nextChip c r) qs)
           → j′ + length (bytes (trace (nextChip c r) qs)) < most extra m → Next)
           → Still c (trace c (r ∷ qs)) (entry (chipAfter c (r ∷ qs)) h)
-      go event e k = rw e (k j p (inside-event c₀ (sofar m j) c r g (event-of r (outcome c r) e) i) (rw e at le))
-      go low e k = let w = inside-other c₀ (sofar m j) c r g (rw e) i in rw e (w .1, k j p (w .0) (rw e at le))
-      go other e k = let w = inside-other c₀ (sofar m j) c r g (rw e) i in rw e (w .1, k j p (w .0) (rw e at le))
+      go event e k = rw e (k j p (inside-event c₀ s₀ (sofar m j) c s r g (event-of r (outcome c r) e) i) (rw e at le))
+      go low e k = let w = inside-other c₀ s₀ (sofar m j) c s r (rw e) i in rw e (w .1, k j p (w .0) (rw e at le))
+      go other e k = let w = inside-other c₀ s₀ (sofar m j) c s r (rw e) i in rw e (w .1, k j p (w .0) (rw e at le))
       go high e k = absurd (true-false (rw e at (n .0)))
       go exchange e k =
           let l : j + suc (length (bytes (trace (nextChip c r) qs))) < most extra m = rw e at le in
-          let w = inside-next c₀ c m j r g e (omega arith) i in
+          let w = inside-next c₀ s₀ c s m j r g e (omega arith) i in
           rw e (w .2 p, k (suc j) (omega arith) (w .0) (omega arith))
 
-  ready-inside : (c₀ c : Chip) (m : Command) (j k : ℕ) (qs : List (List ℕ)) (h : List ℕ) → Good c → NoHigh c qs
+  -- .. and its events before the moment are spared
+  abbrev Prepared : ℕ → Command → Chip → List Entry → Entry → Type 0
+  Prepared k m c s h = Ready k c s h × Spared m c (events (before k s))
+
+  ready-inside : (c₀ : Chip) (s₀ : List Entry) (c : Chip) (m : Command) (j k : ℕ) (qs : List (List ℕ)) (h : List ℕ) → Good c → NoHigh c qs
       → roleAt (chipAfter c qs) h ≡ high → suc j + k ≡ momentOf m → j + length (bytes (trace c qs)) < most extra m
-      → Inside c₀ (sofar m j) c
-      → Ready k c (trace c qs) (entry (chipAfter c qs) h)
-  unfolding trace chipAfter bytes
-  ready-inside c₀ c m j k [] h g n eh p le i = tt
-  ready-inside c₀ c m j k (r ∷ qs) h g n eh p le i =
-      go (roleAt c r) refl k p (λ j′ k′ p′ t l. ready-inside c₀ (nextChip c r) m j′ k′ qs h (good-next c r g) (n .1) eh p′ l t)
+      → Inside c₀ s₀ (sofar m j) c (trace c qs) → Prepared k m c (trace c qs) (entry (chipAfter c qs) h)
+  unfolding trace chipAfter bytes events before
+  ready-inside c₀ s₀ c m j k [] h g n eh p le i = (tt, spared-none m c)
+  ready-inside c₀ s₀ c m j k (r ∷ qs) h g n eh p le i =
+      go (roleAt c r) refl k p (λ j′ k′ p′ t l. ready-inside c₀ s₀ (nextChip c r) m j′ k′ qs h (good-next c r g) (n .1) eh p′ l t)
     where
+      s : List Entry
+      s = trace (nextChip c r) qs
+
+      same : (k : ℕ) → nextChip c r ≡ c → Spared m (nextChip c r) (events (before k s)) → Spared m c (events (before k s))
+      same k e t = subst (λ (d : Chip). Spared m d (events (before k s))) e t
+
       go : (ρ : Role) → roleAt c r ≡ ρ → (k : ℕ) → suc j + k ≡ momentOf m
-          → ((j′ k′ : ℕ) → suc j′ + k′ ≡ momentOf m → Inside c₀ (sofar m j′) (nextChip c r)
+          → ((j′ k′ : ℕ) → suc j′ + k′ ≡ momentOf m → Inside c₀ s₀ (sofar m j′) (nextChip c r) (trace (nextChip c r) qs)
           → j′ + length (bytes (trace (nextChip c r) qs)) < most extra m
-          → Ready k′ (nextChip c r) (trace (nextChip c r) qs) (entry (chipAfter (nextChip c r) qs) h))
-          → Ready k c (trace c (r ∷ qs)) (entry (chipAfter c (r ∷ qs)) h)
-      go event e k p f = rw e (f j k p (inside-event c₀ (sofar m j) c r g (event-of r (outcome c r) e) i) (rw e at le))
+          → Prepared k′ m (nextChip c r) (trace (nextChip c r) qs) (entry (chipAfter (nextChip c r) qs) h))
+          → Prepared k m c (trace c (r ∷ qs)) (entry (chipAfter c (r ∷ qs)) h)
+      go event e k p f =
+          let ev : Event r = event-of r (outcome c r) e in
+          let t = f j k p (inside-event c₀ s₀ (sofar m j) c s r g ev i) (rw e at le) in
+          rw (e, e) (t .0, spared-event c₀ s₀ m j c s r (events (before k s)) ev i (t .1))
       go low e k p f =
-          let w = inside-other c₀ (sofar m j) c r g (rw e) i in rw e (quiet-calm c r (w .1), f j k p (w .0) (rw e at le))
+          let w = inside-other c₀ s₀ (sofar m j) c s r (rw e) i in
+          let t = f j k p (w .0) (rw e at le) in
+          rw (e, e) ((quiet-calm c r (events (before k s)) (w .1), t .0), same k (w .2) (t .1))
       go other e k p f =
-          let w = inside-other c₀ (sofar m j) c r g (rw e) i in rw e (quiet-calm c r (w .1), f j k p (w .0) (rw e at le))
+          let w = inside-other c₀ s₀ (sofar m j) c s r (rw e) i in
+          let t = f j k p (w .0) (rw e at le) in
+          rw (e, e) ((quiet-calm c r (events (before k s)) (w .1), t .0), same k (w .2) (t .1))
       go high e k p f = absurd (true-false (rw e at (n .0)))
       go exchange e zero p f =
           let l : j + suc (length (bytes (trace (nextChip c r) qs))) < most extra m = rw e at le in
-          let w = inside-next c₀ c m j r g e (omega arith) i in
-          rw e (still-inside c₀ (nextChip c r) m (suc j) qs h (good-next c r g) (n .1) eh (omega arith) (omega arith) (w .0))
+          let w = inside-next c₀ s₀ c s m j r g e (omega arith) i in
+          rw e (still-inside c₀ s₀ (nextChip c r) m (suc j) qs h (good-next c r g) (n .1) eh (omega arith) (omega arith) (w .0), spared-none m c)
       go exchange e (suc k) p f =
           let l : j + suc (length (bytes (trace (nextChip c r) qs))) < most extra m = rw e at le in
-          let w = inside-next c₀ c m j r g e (omega arith) i in
-          rw e (w .1 (omega arith), f (suc j) k (omega arith) (w .0) (omega arith))
+          let w = inside-next c₀ s₀ c s m j r g e (omega arith) i in
+          let t = f (suc j) k (omega arith) (w .0) (omega arith) in
+          let q = w .1 (omega arith) (events (before k s)) (t .1) in
+          rw (e, e) ((q .0, t .0), q .1)
 
-  listed-cons : (c : Chip) (b : ℕ) (bs : List ℕ) (k : ℕ) → listed extra c (b ∷ bs) ≡ some k
-      → (length (b ∷ bs) ≤ most extra (commandOf b)) × (allowed (c .core) (commandOf b) ≡ true) × (momentOf (commandOf b) ≡ k)
-  unfolding listed
-  listed-cons c b bs k e = go (leb (length (b ∷ bs)) (most extra (commandOf b))) refl (allowed (c .core) (commandOf b)) refl e
+  listed-cons : (c : Chip) (s : List Entry) (b : ℕ) (bs : List ℕ) (k : ℕ) → listedBy extra c s (b ∷ bs) ≡ some k
+      → (length (b ∷ bs) ≤ most extra (commandOf b)) × (allowed (c .core) s (commandOf b) ≡ true) × (momentOf (commandOf b) ≡ k)
+  unfolding listedBy
+  listed-cons c s b bs k e = go (leb (length (b ∷ bs)) (most extra (commandOf b))) refl (allowed (c .core) s (commandOf b)) refl e
     where
-      go : (x : Bool) → leb (length (b ∷ bs)) (most extra (commandOf b)) ≡ x → (y : Bool) → allowed (c .core) (commandOf b) ≡ y
+      go : (x : Bool) → leb (length (b ∷ bs)) (most extra (commandOf b)) ≡ x → (y : Bool) → allowed (c .core) s (commandOf b) ≡ y
           → cond (x && y) (some (momentOf (commandOf b))) none ≡ some k
-          → (length (b ∷ bs) ≤ most extra (commandOf b)) × (allowed (c .core) (commandOf b) ≡ true) × (momentOf (commandOf b) ≡ k)
+          → (length (b ∷ bs) ≤ most extra (commandOf b)) × (allowed (c .core) s (commandOf b) ≡ true) × (momentOf (commandOf b) ≡ k)
       go true ex true ey e = (leb→le (length (b ∷ bs)) (most extra (commandOf b)) (rw ex tt), ey, (cc))
       go true ex false ey e = absurd (none-some k e)
       go false ex true ey e = absurd (none-some k e)
       go false ex false ey e = absurd (none-some k e)
 
-  ready : (c₀ c : Chip) (k : ℕ) (qs : List (List ℕ)) (h : List ℕ) → Good c → NoHigh c qs → roleAt (chipAfter c qs) h ≡ high
-      → listed extra c₀ (bytes (trace c qs)) ≡ some k → Inside c₀ fresh c → Ready k c (trace c qs) (entry (chipAfter c qs) h)
+  ready : (c₀ : Chip) (s₀ : List Entry) (c : Chip) (k : ℕ) (qs : List (List ℕ)) (h : List ℕ) → Good c → NoHigh c qs
+      → roleAt (chipAfter c qs) h ≡ high → listedBy extra c₀ s₀ (bytes (trace c qs)) ≡ some k → Inside c₀ s₀ fresh c (trace c qs)
+      → Ready k c (trace c qs) (entry (chipAfter c qs) h)
   unfolding trace chipAfter bytes
-  ready c₀ c k [] h g n eh le i = tt
-  ready c₀ c k (r ∷ qs) h g n eh le i =
-      go (roleAt c r) refl k le (λ k′ t l. ready c₀ (nextChip c r) k′ qs h (good-next c r g) (n .1) eh l t)
+  ready c₀ s₀ c k [] h g n eh le i = tt
+  ready c₀ s₀ c k (r ∷ qs) h g n eh le i =
+      go (roleAt c r) refl k le (λ k′ t l. ready c₀ s₀ (nextChip c r) k′ qs h (good-next c r g) (n .1) eh l t)
     where
-      go : (ρ : Role) → roleAt c r ≡ ρ → (k : ℕ) → listed extra c₀ (bytes (trace c (r ∷ qs))) ≡ some k
-          → ((k′ : ℕ) → Inside c₀ fresh (nextChip c r) → listed extra c₀ (bytes (trace (nextChip c r) qs)) ≡ some k′
+      s : List Entry
+      s = trace (nextChip c r) qs
+
+      go : (ρ : Role) → roleAt c r ≡ ρ → (k : ℕ) → listedBy extra c₀ s₀ (bytes (trace c (r ∷ qs))) ≡ some k
+          → ((k′ : ℕ) → Inside c₀ s₀ fresh (nextChip c r) (trace (nextChip c r) qs) → listedBy extra c₀ s₀ (bytes (trace (nextChip c r) qs)) ≡ some k′
           → Ready k′ (nextChip c r) (trace (nextChip c r) qs) (entry (chipAfter (nextChip c r) qs) h))
           → Ready k c (trace c (r ∷ qs)) (entry (chipAfter c (r ∷ qs)) h)
-      go event e k le f = rw e (f k (inside-event c₀ fresh c r g (event-of r (outcome c r) e) i) (rw e at le))
-      go low e k le f = let w = inside-other c₀ fresh c r g (rw e) i in rw e (quiet-calm c r (w .1), f k (w .0) (rw e at le))
-      go other e k le f = let w = inside-other c₀ fresh c r g (rw e) i in rw e (quiet-calm c r (w .1), f k (w .0) (rw e at le))
+      go event e k le f = rw e (f k (inside-event c₀ s₀ fresh c s r g (event-of r (outcome c r) e) i) (rw e at le))
+      go low e k le f =
+          let w = inside-other c₀ s₀ fresh c s r (rw e) i in rw e (quiet-calm c r (events (before k s)) (w .1), f k (w .0) (rw e at le))
+      go other e k le f =
+          let w = inside-other c₀ s₀ fresh c s r (rw e) i in rw e (quiet-calm c r (events (before k s)) (w .1), f k (w .0) (rw e at le))
       go high e k le f = absurd (true-false (rw e at (n .0)))
       go exchange e zero le f =
-          let l = listed-cons c₀ (byteAt r 1) (bytes (trace (nextChip c r) qs)) zero (rw e at le) in
-          let w = inside-first c₀ c r g e (l .1) i in
-          let z = still-inside c₀ (nextChip c r) (named r) 0 qs h (good-next c r g) (n .1) eh (omega (arith, l .2)) (omega (arith, l .0)) (w .0) in
+          let l = listed-cons c₀ s₀ (byteAt r 1) (bytes (trace (nextChip c r) qs)) zero (rw e at le) in
+          let w = inside-first c₀ s₀ c s r g e (l .1) i in
+          let z = still-inside c₀ s₀ (nextChip c r) (named r) 0 qs h (good-next c r g) (n .1) eh (omega (arith, l .2)) (omega (arith, l .0)) (w .0) in
           rw e z
       go exchange e (suc k) le f =
-          let l = listed-cons c₀ (byteAt r 1) (bytes (trace (nextChip c r) qs)) (suc k) (rw e at le) in
-          let w = inside-first c₀ c r g e (l .1) i in
-          let z = ready-inside c₀ (nextChip c r) (named r) 0 k qs h (good-next c r g) (n .1) eh (omega (arith, l .2)) (omega (arith, l .0)) (w .0) in
-          rw e (w .1 (omega (arith, l .2)), z)
+          let l = listed-cons c₀ s₀ (byteAt r 1) (bytes (trace (nextChip c r) qs)) (suc k) (rw e at le) in
+          let w = inside-first c₀ s₀ c s r g e (l .1) i in
+          let z = ready-inside c₀ s₀ (nextChip c r) (named r) 0 k qs h (good-next c r g) (n .1) eh (omega (arith, l .2)) (omega (arith, l .0)) (w .0) in
+          rw e (w .1 (omega (arith, l .2)) (events (before k s)), z .0)
 
   -- A session, listed or not.
   session-fits : (c d : Chip) (l : List ℕ) (qs : List (List ℕ)) (h : List ℕ) (rest : List Entry) → Good c → roleAt c l ≡ low
@@ -407,7 +452,7 @@ module _ (extra : ℕ) (L : Laws extra) where
       → Fits c (entry c l ∷ (trace (nextChip c l) qs ++ (entry (chipAfter (nextChip c l) qs) h ∷ rest))) d
       → Fits c (session extra (entry c l) (trace (nextChip c l) qs) (entry (chipAfter (nextChip c l) qs) h) ++ rest) d
   unfolding session placed
-  session-fits c d l qs h rest g el n eh f = go (listed extra c (bytes s)) refl
+  session-fits c d l qs h rest g el n eh f = go (listed extra c s) refl
     where
       s : List Entry
       s = trace (nextChip c l) qs
@@ -415,15 +460,15 @@ module _ (extra : ℕ) (L : Laws extra) where
       x : Entry
       x = entry (chipAfter (nextChip c l) qs) h
 
-      go : (o : Option ℕ) → listed extra c (bytes s) ≡ o → Fits c (placed (listed extra c (bytes s)) (entry c l) s x ++ rest) d
+      go : (o : Option ℕ) → listed extra c s ≡ o → Fits c (placed (listed extra c s) (entry c l) s x ++ rest) d
       go none e = rw e (subst (λ (t : List Entry). Fits c (entry c l ∷ t) d) (sym (append-snoc s x rest)) f)
       go (some k) e =
-          let w = inside-low c l g el in
+          let w = inside-low c s l g el in
           let g′ = good-next c l g in
           let es = events (before k s) in
           let zs = events (after k s) in
-          let r = early k (nextChip c l) d s x rest g′ (ready c (nextChip c l) k qs h g′ n eh e (w .0)) (f .1) in
-          let m = behind c d (entry c l) es (others s ++ (x ∷ (zs ++ rest))) g (w .1) (all-events (before k s)) (f .0, r) in
+          let r = early k (nextChip c l) d s x rest g′ (ready c s (nextChip c l) k qs h g′ n eh e (w .0)) (f .1) in
+          let m = behind c d (entry c l) es (others s ++ (x ∷ (zs ++ rest))) g (w .1 es) (all-events (before k s)) (f .0, r) in
           rw e (subst (λ (t : List Entry). Fits c t d) (regroup es (entry c l) (others s) x zs rest) m)
 
   -- ---- a whole list, outside a session and inside one

@@ -1,4 +1,4 @@
--- The single-moment list and the tidied list: a command happens at one moment, whatever the bus does.
+-- The single-moment list and the tidied list: a command happens at one moment, whatever bus and pins do.
 -- The words session, command, listed, moment, event and tidied list are those of the rules.
 use mathlib.Core.Bool.{Bool, true, false, cond, not, _&&_}
 use mathlib.Core.List.{List, [], _∷_, _++_}
@@ -8,12 +8,14 @@ use Prim.Native.Nat.{ℕ, zero, suc, _+_, _-_, _%_}
 use lib.ListN.{length}
 use lib.Dec.{eqb, leb}
 use Rattle.records.specs.declared.Kind.{Kind}
-use Rattle.records.specs.declared.Kind.the-variants.{SelectLow, Exchange, SelectHigh, FrameHeard, BusIdle, FrameEnds, ReceiveError, Recovery, Unknown}
+use Rattle.records.specs.declared.Kind.the-variants.{SelectLow, Exchange, SelectHigh, FrameHeard, BusIdle, FrameEnds, ReceiveError, Recovery, PinLevel, Unknown}
 use Rattle.records.specs.Records.{byteAt, kindOf, isEvent}
 use Rattle.registers.specs.declared.TxBuffer.{TxBuffer}
 use Rattle.registers.specs.declared.Core.{Core}
 use Rattle.receiving.specs.Receiving.{isFull}
+use Rattle.registers.specs.State.{levelOf}
 use Rattle.stores.specs.Store.{isLocked}
+use Rattle.controller.specs.Events.{fallsEnabled}
 use Rattle.spi.specs.declared.Command.{Command}
 use Rattle.spi.specs.declared.Command.the-variants.{Reset, Read, Write, BitModify, ReadRxBuffer, LoadTxBuffer, Rts, ReadStatus, RxStatus, UnknownCode}
 use Rattle.mcp2515.specs.declared.Chip.{Chip}
@@ -22,7 +24,7 @@ use Rattle.records.specs.declared.Outcome.{Outcome}
 use Rattle.mcp2515.specs.Step.{powerOn, nextChip, outcome, chipAfter, outcomes}
 
 -- ---- what a record is in a run
--- an event (kinds 3 to 7, accepted or not); a select low, a select high or an exchange, if accepted; any other record is refused
+-- an event (kinds 3 to 8, accepted or not); a select low, a select high or an exchange, if accepted; any other record is refused
 pub data Role : Type 0 where
   event low exchange high other : Role
 
@@ -35,6 +37,7 @@ acceptedRole BusIdle = event
 acceptedRole FrameEnds = event
 acceptedRole ReceiveError = event
 acceptedRole Recovery = event
+acceptedRole PinLevel = event
 acceptedRole Unknown = other
 
 unfoldable pub roleOf : List ℕ → Outcome → Role
@@ -117,24 +120,42 @@ momentOf UnknownCode = 1
 abbrev pub isFree : Core → TxBuffer → Bool
 isFree k b = not (isLocked (k .control) b)
 
--- asked at select low: READ RX BUFFER wants its RXnIF set, LOAD TX BUFFER a free buffer
-abbrev pub allowed : Core → Command → Bool
-allowed k Reset = true
-allowed k (Rts m) = true
-allowed k BitModify = true
-allowed k Read = true
-allowed k Write = true
-allowed k ReadStatus = true
-allowed k RxStatus = true
-allowed k (ReadRxBuffer b a) = isFull (k .control) b
-allowed k (LoadTxBuffer b a) = isFree k b
-allowed k UnknownCode = true
+-- the record takes the enabled request pin of this buffer from high to low, whether or not that requests anything
+abbrev pub falls : TxBuffer → Entry → Bool
+falls b x = fallsEnabled (x .met .core) b (levelOf (nextChip (x .met) (x .rec) .core .pins) b)
 
--- The moment, if a session with these bytes, its select low at this chip, is listed. A session with no exchange is a command cut short.
-unfoldable pub listed : ℕ → Chip → List ℕ → Option ℕ
-listed extra c [] = some 0
-listed extra c (b ∷ bs) =
-    cond (leb (length (b ∷ bs)) (most extra (commandOf b)) && allowed (c .core) (commandOf b)) (some (momentOf (commandOf b))) none
+unfoldable pub noFall : TxBuffer → List Entry → Bool
+noFall b [] = true
+noFall b (x ∷ xs) = not (falls b x) && noFall b xs
+
+-- asked of the core at select low: READ RX BUFFER wants its RXnIF set, LOAD TX BUFFER a free buffer; and of what stands inside the
+-- session: LOAD TX BUFFER wants no fall on the enabled pin of its buffer
+abbrev pub allowed : Core → List Entry → Command → Bool
+allowed k s Reset = true
+allowed k s (Rts m) = true
+allowed k s BitModify = true
+allowed k s Read = true
+allowed k s Write = true
+allowed k s ReadStatus = true
+allowed k s RxStatus = true
+allowed k s (ReadRxBuffer b a) = isFull (k .control) b
+allowed k s (LoadTxBuffer b a) = isFree k b && noFall b s
+allowed k s UnknownCode = true
+
+-- the bytes of the accepted exchanges
+unfoldable pub bytes : List Entry → List ℕ
+bytes [] = []
+bytes (x ∷ xs) = cond (isExchange (roleIn x)) (byteAt (x .rec) 1 ∷ bytes xs) (bytes xs)
+
+-- The moment, if a session with this inside and these bytes, its select low at this chip, is listed. A session with no exchange is a
+-- command cut short.
+unfoldable pub listedBy : ℕ → Chip → List Entry → List ℕ → Option ℕ
+listedBy extra c s [] = some 0
+listedBy extra c s (b ∷ bs) =
+    cond (leb (length (b ∷ bs)) (most extra (commandOf b)) && allowed (c .core) s (commandOf b)) (some (momentOf (commandOf b))) none
+
+abbrev pub listed : ℕ → Chip → List Entry → Option ℕ
+listed extra c s = listedBy extra c s (bytes s)
 
 -- ---- the tidied list
 unfoldable pub events : List Entry → List Entry
@@ -144,11 +165,6 @@ events (x ∷ xs) = cond (isEventRole (roleIn x)) (x ∷ events xs) (events xs)
 unfoldable pub others : List Entry → List Entry
 others [] = []
 others (x ∷ xs) = cond (isEventRole (roleIn x)) (others xs) (x ∷ others xs)
-
--- the bytes of the accepted exchanges
-unfoldable pub bytes : List Entry → List ℕ
-bytes [] = []
-bytes (x ∷ xs) = cond (isExchange (roleIn x)) (byteAt (x .rec) 1 ∷ bytes xs) (bytes xs)
 
 -- what stands before accepted exchange number k, and the rest
 unfoldable pub before : ℕ → List Entry → List Entry
@@ -166,7 +182,7 @@ placed none l s h = l ∷ (s ++ (h ∷ []))
 placed (some k) l s h = events (before k s) ++ (l ∷ (others s ++ (h ∷ events (after k s))))
 
 unfoldable pub session : ℕ → Entry → List Entry → Entry → List Entry
-session extra l s h = placed (listed extra (l .met) (bytes s)) l s h
+session extra l s h = placed (listed extra (l .met) s) l s h
 
 -- Outside a session, or inside one that began with this entry and has come so far.
 pub data Place : Type 0 where
@@ -218,7 +234,7 @@ abbrev pub Apart : ℕ → Place → List Entry → Type 0
 Apart extra p [] = Unit {0}
 Apart extra outside (x ∷ xs) = Apart extra (cond (isLow (roleIn x)) (inside x []) outside) xs
 Apart extra (inside l s) (x ∷ xs) =
-    cond (isHigh (roleIn x)) (Still (listed extra (l .met) (bytes s)) s × Apart extra outside xs) (Apart extra (inside l (s ++ (x ∷ []))) xs)
+    cond (isHigh (roleIn x)) (Still (listed extra (l .met) s) s × Apart extra outside xs) (Apart extra (inside l (s ++ (x ∷ []))) xs)
 
 -- then the list is tidy as it stands
 abbrev pub TidyKept : ℕ → Type 0

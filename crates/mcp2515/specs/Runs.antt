@@ -1,8 +1,10 @@
--- What holds of every chip that a run from power-on reaches, and what no step does to a filter or mask.
+-- What holds of every chip that a run from power-on reaches, and what no step does to a filter, a mask or the level of a pin.
 use Prim.Native.Nat.{ℕ, _%_}
 use mathlib.Core.Bool.{Bool, true, false, not, _&&_, _||_}
 use mathlib.Core.List.{List}
 use mathlib.Core.Path.{_≡_}
+use Rattle.records.specs.declared.Kind.the-variants.{PinLevel}
+use Rattle.records.specs.Records.{kindOf}
 use Rattle.registers.specs.declared.Region.{Region}
 use Rattle.registers.specs.declared.Region.the-variants.{Filters, Masks}
 use Rattle.registers.specs.declared.Request.{Request}
@@ -60,10 +62,14 @@ storesInConfiguration c r = isStore (asked (c .select) r) && isConfiguration (c 
 abbrev pub BytesKept : Region → Chip → List ℕ → Type 0
 BytesKept g c r = (a : ℕ) → regionOf (a % 128) ≡ g → holds (nextChip c r .core) a ≡ holds (c .core) a
 
--- a filter byte changes by a store in Configuration and by nothing else: by no bus event, and not by RESET
+-- a filter byte changes by a store in Configuration and by nothing else: by no event, and not by RESET
 abbrev pub FiltersKept : Type 0
 FiltersKept = (c : Chip) (r : List ℕ) → storesInConfiguration c r ≡ false → BytesKept Filters c r
 
 -- a mask byte changes only by a store in Configuration or by RESET
 abbrev pub MasksKept : Type 0
 MasksKept = (c : Chip) (r : List ℕ) → storesInConfiguration c r ≡ false → (asked (c .select) r ≡ ResetAll → ⊥) → BytesKept Masks c r
+
+-- ---- the level of a request pin changes by a record of kind 8 and by nothing else: by no other event, and not by RESET
+abbrev pub PinsKept : Type 0
+PinsKept = (c : Chip) (r : List ℕ) → (kindOf r ≡ PinLevel → ⊥) → nextChip c r .core .pins ≡ c .core .pins

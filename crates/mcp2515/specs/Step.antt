@@ -3,7 +3,7 @@ use Prim.Native.Nat.{ℕ}
 use mathlib.Core.Bool.{cond}
 use mathlib.Core.List.{List, [], _∷_}
 use Rattle.records.specs.declared.Kind.{Kind}
-use Rattle.records.specs.declared.Kind.the-variants.{SelectLow, Exchange, SelectHigh, FrameHeard, BusIdle, FrameEnds, ReceiveError, Recovery, Unknown}
+use Rattle.records.specs.declared.Kind.the-variants.{SelectLow, Exchange, SelectHigh, FrameHeard, BusIdle, FrameEnds, ReceiveError, Recovery, PinLevel, Unknown}
 use Rattle.records.specs.declared.Outcome.{Outcome}
 use Rattle.records.specs.Records.{refusedSelect, refusedField, byteAt, kindOf, isEvent, soundOf}
 use Rattle.registers.specs.Registers.{powerOnCore}
@@ -35,6 +35,7 @@ askedBy BusIdle s b = Refuse refusedField
 askedBy FrameEnds s b = Refuse refusedField
 askedBy ReceiveError s b = Refuse refusedField
 askedBy Recovery s b = Refuse refusedField
+askedBy PinLevel s b = Refuse refusedField
 askedBy Unknown s b = Refuse refusedField
 
 -- refusal 2 comes before refusal 1
@@ -52,6 +53,7 @@ turnedBy BusIdle s b = s
 turnedBy FrameEnds s b = s
 turnedBy ReceiveError s b = s
 turnedBy Recovery s b = s
+turnedBy PinLevel s b = s
 turnedBy Unknown s b = s
 
 unfoldable pub turned : Select → List ℕ → Select
@@ -66,7 +68,7 @@ spiStep c r =
       chip = record { core = acted (asked (c .select) r) (c .core); select = turned (c .select) r };
     }
 
--- ---- a bus event never looks at the SPI side
+-- ---- an event never looks at the SPI side
 abbrev pub eventStep : Chip → List ℕ → Stepped
 eventStep c r =
     record {

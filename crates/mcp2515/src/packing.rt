@@ -39,9 +39,11 @@ pub fn pack(chip: Chip) -> [u8; SIZE]
     let tx = core.tx;
     let rx = core.rx;
     let control = core.control;
+    let pins = core.pins;
     let select = chip.select;
     let mut image = with_bytes(config, tx, rx);
     image::put_control(&mut image, control);
+    image::put_pins(&mut image, pins);
     spi::put_select(&mut image, select);
     image
 }
@@ -80,6 +82,7 @@ pub fn unpack(image: [u8; SIZE]) -> Chip
         tx: row_bytes(&image, 48),
         rx: received_bytes(&image),
         control: image::control_of(&image),
+        pins: image::pins_of(&image),
     };
     Chip {
         core,

@@ -133,7 +133,7 @@ fn step_spi(image: &mut [u8], fields: Fields) -> Outcome
     step_high(image)
 }
 
-// One record, where the chip lies: kinds 0 to 2 are of the SPI side, a bus event never looks at it. The set is worked out where it is asked
+// One record, where the chip lies: kinds 0 to 2 are of the SPI side, an event never looks at it. The set is worked out where it is asked
 // for. Bytes that are no image are refused as a field.
 pub fn step_in_place(image: &mut [u8], fields: Fields, wanted: bool) -> Outcome
     ensures { λ r. ⌜ Answered (now (image .entry)) r (wantedOutcome wanted (outcome (chipOf (now (image .entry))) (recordOf fields))) notAnImage ⌝ }

@@ -268,7 +268,7 @@ pub record Received : Type 0 where
 
 abbrev pub coreAfter : Verdict → Core → Frame → Core
 coreAfter v k f =
-    record { control = controlAfter v (k .control) (f .remote); config = k .config; tx = k .tx; rx = bytesAfter v (k .rx) f }
+    record { control = controlAfter v (k .control) (f .remote); config = k .config; tx = k .tx; rx = bytesAfter v (k .rx) f; pins = k .pins }
 
 abbrev pub receivedBy : MatchAnswer → Core → Frame → Received
 receivedBy m k f = record { core = coreAfter (m .verdict) k f; answer = receptionOf (m .verdict); matched = m .matched }

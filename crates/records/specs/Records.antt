@@ -1,13 +1,14 @@
 -- Calls, records and answers: the record of 16 bytes, its kind, its fields, and what refusal 2 names.
 use Prim.Native.Nat.{ℕ, zero, suc, _+_, _*_, _/_, _%_, min}
 use mathlib.Core.Bool.{Bool, true, false, cond, _&&_, _||_}
+use mathlib.Core.Path.{_≡_}
 use mathlib.Core.List.{List, [], _∷_}
 use lib.Dec.{eqb, ltb, leb}
 use lib.ListN.{getD}
 use Rattle.bits.specs.Bit.{hasBit}
 use Rattle.records.specs.declared.Kind.{Kind}
 use Rattle.records.specs.declared.Outcome.{Outcome}
-use Rattle.records.specs.declared.Kind.the-variants.{SelectLow, Exchange, SelectHigh, FrameHeard, BusIdle, FrameEnds, ReceiveError, Recovery, Unknown}
+use Rattle.records.specs.declared.Kind.the-variants.{SelectLow, Exchange, SelectHigh, FrameHeard, BusIdle, FrameEnds, ReceiveError, Recovery, PinLevel, Unknown}
 use Rattle.records.specs.declared.Frame.{Frame}
 use Rattle.records.specs.declared.Fields.{Fields}
 
@@ -48,12 +49,13 @@ kindBy b =
     (cond (eqb b 4) BusIdle
     (cond (eqb b 5) FrameEnds
     (cond (eqb b 6) ReceiveError
-    (cond (eqb b 7) Recovery Unknown)))))))
+    (cond (eqb b 7) Recovery
+    (cond (eqb b 8) PinLevel Unknown))))))))
 
 unfoldable pub kindOf : List ℕ → Kind
 kindOf r = kindBy (byteAt r 0)
 
--- Events are kinds 3 to 7.
+-- Events are kinds 3 to 8.
 abbrev pub isEvent : Kind → Bool
 isEvent SelectLow = false
 isEvent Exchange = false
@@ -63,7 +65,12 @@ isEvent BusIdle = true
 isEvent FrameEnds = true
 isEvent ReceiveError = true
 isEvent Recovery = true
+isEvent PinLevel = true
 isEvent Unknown = false
+
+-- a law that the proofs show: by their numbers, events are the kinds from 3 to 8 and no other
+abbrev pub EventNumbers : Type 0
+EventNumbers = (n : ℕ) → isEvent (kindBy n) ≡ (ltb 2 n && ltb n 9)
 
 -- The n bytes from i on are 0.
 abbrev pub zeros : List ℕ → ℕ → ℕ → Bool
@@ -113,7 +120,7 @@ soundFrame r =
     && leb (identifierOf r) (largestIdentifier (hasBit (byteAt r 1) 0))
     && zerosPast r (carried (hasBit (byteAt r 1) 1) (byteAt r 2)) 8
 
--- ---- the other kinds have one field at most: byte 1, up to this
+-- ---- byte 1 of the other kinds goes up to this
 abbrev pub largestField : Kind → ℕ
 largestField SelectLow = 0
 largestField Exchange = 255
@@ -123,10 +130,19 @@ largestField BusIdle = 0
 largestField FrameEnds = 2
 largestField ReceiveError = 1
 largestField Recovery = 0
+largestField PinLevel = 2
 largestField Unknown = 0
 
+-- a kind with one field at most
 abbrev pub soundPlain : Kind → List ℕ → Bool
 soundPlain k r = leb (byteAt r 1) (largestField k) && zeros r 2 14
+
+-- ---- kind 8: a request pin. Byte 1 is n of TXnRTS, byte 2 the level, 0 low and 1 high
+abbrev pub largestLevel : ℕ
+largestLevel = 1
+
+abbrev pub soundPin : List ℕ → Bool
+soundPin r = leb (byteAt r 1) (largestField PinLevel) && leb (byteAt r 2) largestLevel && zeros r 3 13
 
 abbrev pub soundBy : Kind → List ℕ → Bool
 soundBy SelectLow r = soundPlain SelectLow r
@@ -137,6 +153,7 @@ soundBy BusIdle r = soundPlain BusIdle r
 soundBy FrameEnds r = soundPlain FrameEnds r
 soundBy ReceiveError r = soundPlain ReceiveError r
 soundBy Recovery r = soundPlain Recovery r
+soundBy PinLevel r = soundPin r
 soundBy Unknown r = false
 
 -- Not named by refusal 2: a known kind, fields in their ranges, every other byte 0.

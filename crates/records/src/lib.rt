@@ -14,6 +14,7 @@ ghost use Rattle.records.specs.Records.{
   soundFrame,
   largestField,
   soundPlain,
+  soundPin,
   soundOf,
   recordOf,
 };
@@ -27,6 +28,7 @@ pub enum Kind {
     FrameEnds,
     ReceiveError,
     Recovery,
+    PinLevel,
     Unknown,
 }
 
@@ -71,6 +73,9 @@ pub const REFUSED_STATE: u8 = 5;
 // A length code has four bits.
 const LARGEST_CODE: u8 = 15;
 
+// The level of a pin that is high.
+const LARGEST_LEVEL: u8 = 1;
+
 pub fn kind_by(number: u8) -> Kind
     ensures { λ r. ⌜ r ≡ kindBy number ⌝ }
 {
@@ -83,6 +88,7 @@ pub fn kind_by(number: u8) -> Kind
         5 => Kind::FrameEnds,
         6 => Kind::ReceiveError,
         7 => Kind::Recovery,
+        8 => Kind::PinLevel,
         _ => Kind::Unknown,
     }
 }
@@ -233,15 +239,23 @@ fn largest_field(kind: Kind) -> u8
         Kind::FrameEnds => 2,
         Kind::ReceiveError => 1,
         Kind::Recovery => 0,
+        Kind::PinLevel => 2,
         Kind::Unknown => 0,
     }
+}
+
+// Bytes 3 to 15 are 0.
+fn tail_zero(fields: Fields) -> bool
+    ensures { λ r. ⌜ r ≡ zeros (recordOf fields) 3 13 ⌝ }
+{
+    (fields.spare == 0) & (fields.identifier == 0) & (fields.data == 0)
 }
 
 // Bytes 2 to 15 are 0.
 fn rest_zero(fields: Fields) -> bool
     ensures { λ r. ⌜ r ≡ zeros (recordOf fields) 2 14 ⌝ }
 {
-    (fields.code == 0) & (fields.spare == 0) & (fields.identifier == 0) & (fields.data == 0)
+    (fields.code == 0) & tail_zero(fields)
 }
 
 // A record of a kind that has no more than one field.
@@ -249,6 +263,15 @@ pub fn is_sound_plain(kind: Kind, fields: Fields) -> bool
     ensures { λ r. ⌜ r ≡ soundPlain kind (recordOf fields) ⌝ }
 {
     (fields.field <= largest_field(kind)) & rest_zero(fields)
+}
+
+// The level of a request pin.
+fn is_sound_pin(fields: Fields) -> bool
+    ensures { λ r. ⌜ r ≡ soundPin (recordOf fields) ⌝ }
+{
+    (fields.field <= largest_field(Kind::PinLevel))
+        & (fields.code <= LARGEST_LEVEL)
+        & tail_zero(fields)
 }
 
 // Refusal 2 does not name the record.
@@ -265,6 +288,7 @@ pub fn is_sound(fields: Fields) -> bool
         Kind::FrameEnds => is_sound_plain(kind, fields),
         Kind::ReceiveError => is_sound_plain(kind, fields),
         Kind::Recovery => is_sound_plain(kind, fields),
+        Kind::PinLevel => is_sound_pin(fields),
         Kind::Unknown => false,
     }
 }

@@ -6,12 +6,14 @@ use Prim.Native.Nat.{ℕ, zero, suc, _+_, _%_, _<_}
 use native.Mathlib.Nat.{add-zero, add-suc, suc-add}
 use native.Mathlib.Omega.{arith}
 use lib.Dec.{T, eqb, ltb, ltb→lt}
+use lib.Bits.{bitOr}
 use lib.ListN.{length, getD, take, drop, replicate}
 use Rattle.registers.proofs.Regions.{inside-of, message-above, message-below}
 use Rattle.registers.specs.declared.Region.{Region}
-use Rattle.registers.specs.declared.Region.the-variants.{Filters, Masks, Configured, Bfpctrl, Tec, Rec, Caninte, Canintf, Eflg, Canstat, Canctrl, TxCtrl, TxMessage, RxCtrl, RxMessage}
+use Rattle.registers.specs.declared.Region.the-variants.{Filters, Masks, Configured, Bfpctrl, Txrtsctrl, Tec, Rec, Caninte, Canintf, Eflg, Canstat, Canctrl, TxCtrl, TxMessage, RxCtrl, RxMessage}
 use Rattle.registers.specs.declared.Core.{Core}
-use Rattle.registers.specs.Registers.{regionOf, isKept, keptFrom, resetCore, powerOnCore, holds, holdsIn, ResetHolds, ResetControl}
+use Rattle.registers.specs.State.{withPins}
+use Rattle.registers.specs.Registers.{regionOf, isKept, keptFrom, resetCore, powerOnCore, holds, holdsIn, ResetHolds, ResetLevels, ResetControl}
 
 pub reset-control : ResetControl
 unfolding resetCore powerOnCore
@@ -64,16 +66,22 @@ kept-byte : (g : Region) (a : ℕ) (l : List ℕ) (i x : ℕ) → a + i ≡ x �
 kept-byte g a l i x e p = kept-at a l i ∙ ap (λ (b : ℕ). cond (isKept (regionOf b)) (getD l i 0) 0) e ∙ ap (λ (h : Region). cond (isKept h) (getD l i 0) 0) p
 
 -- ---- RESET in two halves
+-- no pin is enabled after it
+enables-gone : (k : Core) → getD (keptFrom 0 (k .config)) 0x0D 0 ≡ 0
+unfolding regionOf
+enables-gone k = kept-at 0 (k .config) 0x0D
+
 module _ (k : Core) (x : ℕ) (h : x < 128) where
   lower : (g : Region) → regionOf x ≡ g → x < 48 → getD (keptFrom 0 (k .config)) (x % 48) 0 ≡ cond (isKept g) (getD (k .config) (x % 48) 0) 0
   lower g e b = kept-byte g 0 (k .config) (x % 48) x (omega arith) e
 
-  reset-in : (g : Region) → regionOf x ≡ g → holdsIn g (resetCore k) x ≡ cond (isKept g) (holdsIn g k x) (holdsIn g powerOnCore x)
+  reset-in : (g : Region) → regionOf x ≡ g → holdsIn g (resetCore k) x ≡ cond (isKept g) (holdsIn g k x) (holdsIn g (withPins powerOnCore (k .pins)) x)
   unfolding resetCore powerOnCore
   reset-in Filters e = lower Filters e (ltb→lt x 48 (inside-of x Filters h e))
   reset-in Masks e = lower Masks e (ltb→lt x 48 (inside-of x Masks h e)) ∙ sym (no-byte 48 (x % 48))
   reset-in Configured e = lower Configured e (ltb→lt x 48 (inside-of x Configured h e)) ∙ sym (no-byte 48 (x % 48))
   reset-in Bfpctrl e = lower Bfpctrl e (ltb→lt x 48 (inside-of x Bfpctrl h e)) ∙ sym (no-byte 48 (x % 48))
+  reset-in Txrtsctrl e = rw (enables-gone k)
   reset-in Tec e = refl
   reset-in Rec e = refl
   reset-in Caninte e = refl
@@ -95,3 +103,19 @@ module _ (k : Core) (x : ℕ) (h : x < 128) where
 pub reset-holds : ResetHolds
 unfolding holds
 reset-holds k a = reset-in k (a % 128) (omega arith) (regionOf (a % 128)) refl
+
+pub reset-levels : ResetLevels
+unfolding holds resetCore regionOf
+reset-levels k = rw (enables-gone k) (go (k .pins .tx0rts) (k .pins .tx1rts) (k .pins .tx2rts))
+  where
+    go : (x y z : Bool)
+        → bitOr 0 (bitOr (cond (x && true) 0x08 0) (bitOr (cond (y && true) 0x10 0) (cond (z && true) 0x20 0)))
+        ≡ bitOr (cond x 0x08 0) (bitOr (cond y 0x10 0) (cond z 0x20 0))
+    go true true true = refl
+    go true true false = refl
+    go true false true = refl
+    go true false false = refl
+    go false true true = refl
+    go false true false = refl
+    go false false true = refl
+    go false false false = refl

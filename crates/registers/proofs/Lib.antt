@@ -1,2 +1,3 @@
 pub mod Kept
 pub mod Regions
+pub mod Falling

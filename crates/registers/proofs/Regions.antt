@@ -2,10 +2,10 @@
 use mathlib.Core.Path.{_≡_}
 use mathlib.Core.Bool.{Bool, true, _&&_}
 use Prim.Native.Nat.{ℕ, _<_}
-use lib.Dec.{T, ltb, ltb→lt}
+use lib.Dec.{T, eqb, ltb, ltb→lt}
 use Rattle.bits.proofs.All.{every, and-left, and-right}
 use Rattle.registers.specs.declared.Region.{Region}
-use Rattle.registers.specs.declared.Region.the-variants.{Filters, Masks, Configured, Bfpctrl, Tec, Rec, Caninte, Canintf, Eflg, Canstat, Canctrl, TxCtrl, TxMessage, RxCtrl, RxMessage}
+use Rattle.registers.specs.declared.Region.the-variants.{Filters, Masks, Configured, Bfpctrl, Txrtsctrl, Tec, Rec, Caninte, Canintf, Eflg, Canstat, Canctrl, TxCtrl, TxMessage, RxCtrl, RxMessage}
 use Rattle.registers.specs.Registers.{regionOf}
 
 abbrev within : Region → ℕ → Bool
@@ -13,6 +13,7 @@ within Filters a = ltb a 48
 within Masks a = ltb a 48
 within Configured a = ltb a 48
 within Bfpctrl a = ltb a 48
+within Txrtsctrl a = eqb a 0x0D
 within Tec a = true
 within Rec a = true
 within Caninte a = true

@@ -8,7 +8,7 @@ use lib.Bits.{bitAnd, bitOr}
 use lib.ListN.{getD, replicate}
 use Rattle.bits.specs.Bit.{hasBit}
 use Rattle.registers.specs.declared.Region.{Region}
-use Rattle.registers.specs.declared.Region.the-variants.{Filters, Masks, Configured, Bfpctrl, Tec, Rec, Caninte, Canintf, Eflg, Canstat, Canctrl, TxCtrl, TxMessage, RxCtrl, RxMessage}
+use Rattle.registers.specs.declared.Region.the-variants.{Filters, Masks, Configured, Bfpctrl, Txrtsctrl, Tec, Rec, Caninte, Canintf, Eflg, Canstat, Canctrl, TxCtrl, TxMessage, RxCtrl, RxMessage}
 use Rattle.registers.specs.declared.Mode.{Mode}
 use Rattle.registers.specs.declared.Mode.the-variants.{Configuration}
 use Rattle.registers.specs.declared.TxBuffer.{TxBuffer}
@@ -20,8 +20,9 @@ use Rattle.registers.specs.declared.Request.the-variants.{Nothing}
 use Rattle.registers.specs.declared.Flags.{Flags}
 use Rattle.registers.specs.declared.RxControl.{RxControl}
 use Rattle.registers.specs.declared.Control.{Control}
+use Rattle.registers.specs.declared.Pins.{Pins}
 use Rattle.registers.specs.declared.Core.{Core}
-use Rattle.registers.specs.State.{RX0IF, RX1IF, TX0IF, TX1IF, TX2IF, ERRIF, WAKIF, modeNumber, isConfiguration, txControl}
+use Rattle.registers.specs.State.{RX0IF, RX1IF, TX0IF, TX1IF, TX2IF, ERRIF, WAKIF, modeNumber, isConfiguration, txNumber, txControl, levelOf, withPins}
 use Rattle.registers.specs.Errors.{errorFlags, noErrors}
 
 -- ---- the address map; an address is taken modulo 128
@@ -37,7 +38,7 @@ abbrev pub filterRows : ℕ → Region
 filterRows a =
     cond (ltb (a % 16) 12) Filters
     (cond (eqb a 0x0C) Bfpctrl
-    (cond (eqb a 0x0D) Configured
+    (cond (eqb a 0x0D) Txrtsctrl
     (cond (eqb a 0x1C) Tec Rec)))
 
 -- row 2: masks, CNF3-1, CANINTE, CANINTF, EFLG
@@ -68,9 +69,13 @@ regionOf a =
 abbrev pub profileBits : ℕ → ℕ
 profileBits a = cond (eqb (a % 4) 1) (cond (ltb a 0x20) 0xEB 0xE3) 0xFF
 
--- CNF3 and TXRTSCTRL
+-- CNF3
 abbrev pub configuredBits : ℕ → ℕ
-configuredBits a = cond (eqb a 0x28) 0xC7 (cond (eqb a 0x0D) 0x07 0xFF)
+configuredBits a = cond (eqb a 0x28) 0xC7 0xFF
+
+-- TXRTSCTRL: bit n enables TXnRTS as a request
+abbrev pub enableBits : ℕ
+enableBits = 0x07
 
 -- SIDL and DLC of a transmit buffer
 abbrev pub messageBits : ℕ → ℕ
@@ -89,6 +94,7 @@ writableIn Filters a = profileBits a
 writableIn Masks a = profileBits a
 writableIn Configured a = configuredBits a
 writableIn Bfpctrl a = 0x3F
+writableIn Txrtsctrl a = enableBits
 writableIn Tec a = 0x00
 writableIn Rec a = 0x00
 writableIn Caninte a = 0xFF
@@ -105,7 +111,7 @@ unfoldable pub writableOf : ℕ → ℕ
 writableOf a = writableIn (regionOf a) a
 
 -- ---- power-on and RESET
--- mode Configuration, so CANSTAT 80h, and CANCTRL 87h; all else 0, nothing in flight and no mode wanted
+-- mode Configuration, so CANSTAT 80h, and CANCTRL 87h; all else in the control registers 0, nothing in flight and no mode wanted
 abbrev pub firstControl : Control
 firstControl =
     record {
@@ -116,15 +122,20 @@ firstControl =
       state = record { mode = Configuration; flight = Idle; request = Nothing };
     }
 
-unfoldable pub powerOnCore : Core
-powerOnCore = record { control = firstControl; config = replicate 48 0; tx = replicate 48 0; rx = replicate 32 0 }
+-- the request pins start high
+abbrev pub allHigh : Pins
+allHigh = record { tx0rts = true; tx1rts = true; tx2rts = true }
 
--- RESET keeps the filters and the message bytes of every buffer; any other address goes to what it holds at power-on
+unfoldable pub powerOnCore : Core
+powerOnCore = record { control = firstControl; config = replicate 48 0; tx = replicate 48 0; rx = replicate 32 0; pins = allHigh }
+
+-- RESET keeps the filters and the message bytes of every buffer; any other address goes to what it holds at power-on, with the pins as they are
 abbrev pub isKept : Region → Bool
 isKept Filters = true
 isKept Masks = false
 isKept Configured = false
 isKept Bfpctrl = false
+isKept Txrtsctrl = false
 isKept Tec = false
 isKept Rec = false
 isKept Caninte = false
@@ -142,10 +153,10 @@ unfoldable pub keptFrom : ℕ → List ℕ → List ℕ
 keptFrom a [] = []
 keptFrom a (x ∷ xs) = cond (isKept (regionOf a)) x 0 ∷ keptFrom (suc a) xs
 
--- the control registers, flight and mode request as at power-on
+-- the control registers, flight and mode request as at power-on; the pins are outside the chip, and keep their levels
 unfoldable pub resetCore : Core → Core
 resetCore k =
-    record { control = firstControl; config = keptFrom 0x00 (k .config); tx = keptFrom 0x30 (k .tx); rx = keptFrom 0x60 (k .rx) }
+    record { control = firstControl; config = keptFrom 0x00 (k .config); tx = keptFrom 0x30 (k .tx); rx = keptFrom 0x60 (k .rx); pins = k .pins }
 
 -- ---- INT and CANSTAT
 -- the sources enabled and flagged
@@ -176,12 +187,33 @@ abbrev pub rxControl : RxControl → RxBuffer → ℕ
 rxControl r Rxb0 = r .rxb0
 rxControl r Rxb1 = r .rxb1
 
+-- TXRTSCTRL
+abbrev pub isEnabled : Core → TxBuffer → Bool
+isEnabled k b = hasBit (getD (k .config) 0x0D 0) (txNumber b)
+
+-- B0RTS, B1RTS and B2RTS, bits 3 to 5
+abbrev pub levelBit : TxBuffer → ℕ
+levelBit Txb0 = 0x08
+levelBit Txb1 = 0x10
+levelBit Txb2 = 0x20
+
+-- each is the level of its pin where that is not enabled, else 0
+abbrev pub shownLevel : Core → TxBuffer → ℕ
+shownLevel k b = cond (levelOf (k .pins) b && not (isEnabled k b)) (levelBit b) 0
+
+-- they take the place of what is stored there; the other bits are the byte's
+abbrev pub txrtsctrlOf : Core → ℕ
+txrtsctrlOf k =
+    bitOr (bitAnd (getD (k .config) 0x0D 0) 0xC7)
+    (bitOr (shownLevel k Txb0) (bitOr (shownLevel k Txb1) (shownLevel k Txb2)))
+
 -- From 256 on TEC reads 255; bits 5 to 0 of EFLG follow the counters. Bytes 00h to 2Fh and 30h to 5Fh lie at a % 48, 60h to 7Fh at a % 32.
 abbrev pub holdsIn : Region → Core → ℕ → ℕ
 holdsIn Filters k a = getD (k .config) (a % 48) 0
 holdsIn Masks k a = getD (k .config) (a % 48) 0
 holdsIn Configured k a = getD (k .config) (a % 48) 0
 holdsIn Bfpctrl k a = getD (k .config) (a % 48) 0
+holdsIn Txrtsctrl k a = txrtsctrlOf k
 holdsIn Tec k a = min (k .control .counters .tec) 255
 holdsIn Rec k a = k .control .counters .rec
 holdsIn Caninte k a = k .control .flags .caninte
@@ -197,9 +229,19 @@ holdsIn RxMessage k a = getD (k .rx) (a % 32) 0
 unfoldable pub holds : Core → ℕ → ℕ
 holds k a = holdsIn (regionOf (a % 128)) k (a % 128)
 
--- RESET in two halves, over every address: one that is kept holds what it held, every other what it holds at power-on
+-- RESET in two halves, over every address: one that is kept holds what it held, every other what it holds at power-on with the pins
+-- at the levels that they have
 abbrev pub ResetHolds : Type 0
-ResetHolds = (k : Core) (a : ℕ) → holds (resetCore k) a ≡ cond (isKept (regionOf (a % 128))) (holds k a) (holds powerOnCore a)
+ResetHolds =
+    (k : Core) (a : ℕ)
+    → holds (resetCore k) a ≡ cond (isKept (regionOf (a % 128))) (holds k a) (holds (withPins powerOnCore (k .pins)) a)
+
+-- .. so that bits 3 to 5 of TXRTSCTRL, in which no pin is enabled then, are the three levels
+abbrev pub ResetLevels : Type 0
+ResetLevels =
+    (k : Core)
+    → holds (resetCore k) 0x0D
+    ≡ bitOr (cond (k .pins .tx0rts) 0x08 0) (bitOr (cond (k .pins .tx1rts) 0x10 0) (cond (k .pins .tx2rts) 0x20 0))
 
 -- what no address shows whole, counters, mode, flight and request, is as at power-on too
 abbrev pub ResetControl : Type 0
@@ -211,6 +253,7 @@ isProfile Filters = true
 isProfile Masks = true
 isProfile Configured = false
 isProfile Bfpctrl = false
+isProfile Txrtsctrl = false
 isProfile Tec = false
 isProfile Rec = false
 isProfile Caninte = false

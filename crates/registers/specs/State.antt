@@ -1,7 +1,7 @@
 -- The state that the rules carry from step to step, without the SPI side: names of bits, numbers of the enums, and one setter for each part.
 use Prim.Native.Nat.{ℕ}
 use mathlib.Core.Bool.{Bool, true, false}
-use mathlib.Core.List.{List, []}
+use mathlib.Core.List.{List}
 use lib.Dec.{eqb}
 use lib.ListN.{getD, set}
 use Rattle.bits.specs.Bit.{hasBit}
@@ -20,6 +20,7 @@ use Rattle.registers.specs.declared.TxControl.{TxControl}
 use Rattle.registers.specs.declared.RxControl.{RxControl}
 use Rattle.registers.specs.declared.Counters.{Counters}
 use Rattle.registers.specs.declared.Control.{Control}
+use Rattle.registers.specs.declared.Pins.{Pins}
 use Rattle.registers.specs.declared.Core.{Core}
 
 -- ---- bit numbers by the data sheet's names
@@ -152,6 +153,23 @@ withTxControl t Txb0 v = record { txb0 = v; txb1 = t .txb1; txb2 = t .txb2 }
 withTxControl t Txb1 v = record { txb0 = t .txb0; txb1 = v; txb2 = t .txb2 }
 withTxControl t Txb2 v = record { txb0 = t .txb0; txb1 = t .txb1; txb2 = v }
 
+-- ---- the level of a buffer's request pin: TXnRTS for TXBn, true for high
+abbrev pub levelOf : Pins → TxBuffer → Bool
+levelOf p Txb0 = p .tx0rts
+levelOf p Txb1 = p .tx1rts
+levelOf p Txb2 = p .tx2rts
+
+abbrev pub withLevel : Pins → TxBuffer → Bool → Pins
+withLevel p Txb0 v = record { tx0rts = v; tx1rts = p .tx1rts; tx2rts = p .tx2rts }
+withLevel p Txb1 v = record { tx0rts = p .tx0rts; tx1rts = v; tx2rts = p .tx2rts }
+withLevel p Txb2 v = record { tx0rts = p .tx0rts; tx1rts = p .tx1rts; tx2rts = v }
+
+-- the bit of RTS that names a buffer alone
+abbrev pub rtsBit : TxBuffer → ℕ
+rtsBit Txb0 = 1
+rtsBit Txb1 = 2
+rtsBit Txb2 = 4
+
 -- ---- one part of the control registers, the rest as it was
 abbrev pub withFlags : Control → Flags → Control
 withFlags c f = record { flags = f; tx = c .tx; rx = c .rx; counters = c .counters; state = c .state }
@@ -191,20 +209,19 @@ withRequest c q = withState c (record { mode = c .state .mode; flight = c .state
 
 -- ---- one part of the core
 abbrev pub withControl : Core → Control → Core
-withControl k c = record { control = c; config = k .config; tx = k .tx; rx = k .rx }
+withControl k c = record { control = c; config = k .config; tx = k .tx; rx = k .rx; pins = k .pins }
 
 abbrev pub withConfig : Core → List ℕ → Core
-withConfig k l = record { control = k .control; config = l; tx = k .tx; rx = k .rx }
+withConfig k l = record { control = k .control; config = l; tx = k .tx; rx = k .rx; pins = k .pins }
 
 abbrev pub withTxBytes : Core → List ℕ → Core
-withTxBytes k l = record { control = k .control; config = k .config; tx = l; rx = k .rx }
+withTxBytes k l = record { control = k .control; config = k .config; tx = l; rx = k .rx; pins = k .pins }
 
 abbrev pub withRxBytes : Core → List ℕ → Core
-withRxBytes k l = record { control = k .control; config = k .config; tx = k .tx; rx = l }
+withRxBytes k l = record { control = k .control; config = k .config; tx = k .tx; rx = l; pins = k .pins }
 
--- control registers with no bytes beside them
-abbrev pub bare : Control → Core
-bare c = record { control = c; config = []; tx = []; rx = [] }
+abbrev pub withPins : Core → Pins → Core
+withPins k p = record { control = k .control; config = k .config; tx = k .tx; rx = k .rx; pins = p }
 
 -- ---- a list of bytes with the one at an index passed through f
 abbrev pub updated : List ℕ → ℕ → (ℕ → ℕ) → List ℕ

@@ -71,7 +71,7 @@ pub fn tec_less(counters: Counters) -> Counters
     next
 }
 
-fn less_one(tec: u16) -> u16
+pub fn less_one(tec: u16) -> u16
     ensures { λ r. ⌜ r ≡ tec - 1 ⌝ }
 {
     if tec == 0 { 0 } else { tec - 1 }

@@ -9,6 +9,7 @@ pub use errors::error_flags;
 pub use errors::flag;
 pub use errors::heard_rec;
 pub use errors::is_bus_off;
+pub use errors::less_one;
 pub use errors::moved;
 pub use errors::rec_more;
 pub use errors::tec_less;
@@ -67,6 +68,17 @@ pub const TXERR: u8 = 16;
 pub const MLOA: u8 = 32;
 
 pub const ABTF: u8 = 64;
+
+// Bits of TXRTSCTRL: enables of the request pins, and levels.
+pub const B1RTSM: u8 = 2;
+
+pub const B2RTSM: u8 = 4;
+
+pub const B0RTS: u8 = 8;
+
+pub const B1RTS: u8 = 16;
+
+pub const B2RTS: u8 = 32;
 
 // Bits of RXB0CTRL and RXBnCTRL.
 pub const BUKT1: u8 = 2;
@@ -159,20 +171,30 @@ pub struct Control {
     pub state: State,
 }
 
-// The bytes of 00h to 2Fh (filters, masks, CNF, BFPCTRL, TXRTSCTRL), 30h to 5Fh (messages to send) and 60h to 7Fh (messages received).
+// The levels of the pins TX0RTS to TX2RTS: true is high.
+pub struct Pins {
+    pub tx0rts: bool,
+    pub tx1rts: bool,
+    pub tx2rts: bool,
+}
+
+// The bytes of 00h to 2Fh (filters, masks, CNF, BFPCTRL, TXRTSCTRL), 30h to 5Fh (messages to send) and 60h to 7Fh (messages received),
+// beside what acts and the pins.
 pub struct Core {
     pub config: [u8; 48],
     pub tx: [u8; 48],
     pub rx: [u8; 32],
     pub control: Control,
+    pub pins: Pins,
 }
 
-// What lies at an address. Configured: CNF1-3 and TXRTSCTRL, which take writes in the same mode as filters and masks but always read.
+// What lies at an address. Configured: CNF1-3, which like TXRTSCTRL take writes in the same mode as filters and masks but always read.
 pub enum Region {
     Filters,
     Masks,
     Configured,
     Bfpctrl,
+    Txrtsctrl,
     Tec,
     Rec,
     Caninte,

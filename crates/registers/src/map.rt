@@ -65,7 +65,7 @@ fn filter_rows(address: u8) -> Region
     } else if address == 12 {
         Region::Bfpctrl
     } else if address == 13 {
-        Region::Configured
+        Region::Txrtsctrl
     } else if address == 28 {
         Region::Tec
     } else {

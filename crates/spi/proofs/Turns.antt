@@ -11,11 +11,12 @@ use borrow.Author.Tests.{ne-eqb}
 use Rattle.registers.specs.declared.RxBuffer.{RxBuffer}
 use Rattle.registers.specs.declared.RxBuffer.the-variants.{Rxb0, Rxb1}
 use Rattle.registers.specs.declared.Control.{Control}
+use Rattle.registers.specs.declared.Pins.{Pins}
 use Rattle.registers.specs.declared.Core.{Core}
-use Rattle.registers.specs.State.{withControl}
+use Rattle.registers.specs.State.{withControl, withPins}
 use Rattle.registers.specs.Modes.{settled}
-use Rattle.image.specs.Image.{imageSize, selectAt, decoded, controlOf, coreOf, Became, Acted}
-use Rattle.image.proofs.Laws.{high-kept}
+use Rattle.image.specs.Image.{imageSize, selectAt, decoded, controlOf, pinsOf, coreOf, Became, Acted}
+use Rattle.image.proofs.Laws.{pins-away, behind-control, high-kept}
 use Rattle.controller.specs.Events.{settledCore}
 use Rattle.spi.specs.declared.Command.{Command}
 use Rattle.spi.specs.declared.Command.the-variants.{Reset, Read, Write, BitModify, ReadRxBuffer, LoadTxBuffer, Rts, ReadStatus, RxStatus, UnknownCode}
@@ -29,66 +30,63 @@ use Rattle.spi.specs.Open.{readingNumber, instructionBy, selectBy, selec
 
 -- ---- a byte from the select line on is none of the core
 pub select-core : (m : List ℕ) (i v : ℕ) → selectAt ≤ i → coreOf (set m i v) ≡ coreOf m
-unfolding decoded
-select-core m i v h = ap (λ (c : Control). withControl (coreOf (set m i v)) c) same ∙ high-kept (controlOf m) m i v (omega arith)
-  where
-    away : (j : ℕ) → j < selectAt → getD (set m i v) j 0 ≡ getD m j 0
-    away j p = getD-set-other m i j v 0 (λ e. omega arith)
-
-    same : controlOf (set m i v) ≡ controlOf m
-    same = simp (away 128 (omega arith), away 129 (omega arith), away 130 (omega arith), away 131 (omega arith), away 132 (omega arith), away 133 (omega arith), away 134 (omega arith), away 135 (omega arith), away 136 (omega arith), away 137 (omega arith), away 138 (omega arith), away 139 (omega arith), away 140 (omega arith), away 141 (omega arith), away 142 (omega arith))
+select-core m i v h =
+    ap (λ (c : Control). withControl (coreOf (set m i v)) c) (behind-control m i v (omega arith))
+    ∙ ap (λ (p : Pins). withPins (withControl (coreOf (set m i v)) (controlOf m)) p)
+    (pins-away m i v (λ e. omega arith) (λ e. omega arith) (λ e. omega arith))
+    ∙ high-kept (controlOf m) (pinsOf m) m i v (omega arith)
 
 -- a change of the core leaves the bytes of the select line
 pub select-kept : {m n : List ℕ} {k : Core} → Became m n k → (i : ℕ) → getD n (selectAt + i) 0 ≡ getD m (selectAt + i) 0
 select-kept {m} {n} w i = sym (getD-drop selectAt n i 0) ∙ ap (λ (l : List ℕ). getD l i 0) (w .rest) ∙ getD-drop selectAt m i 0
 
-spare-kept : {m n : List ℕ} {k : Core} → Became m n k → drop 146 n ≡ drop 146 m
+spare-kept : {m n : List ℕ} {k : Core} → Became m n k → drop 149 n ≡ drop 149 m
 spare-kept {m} {n} w = sym (drop-drop 3 selectAt n) ∙ ap (λ (l : List ℕ). drop 3 l) (w .rest) ∙ drop-drop 3 selectAt m
 
 -- ---- m changed into n, which stands for the core k and has these bytes for its select line
 pub record Lined (m n : List ℕ) (k : Core) (p a q : ℕ) : Type 0 where
   pub size : length n ≡ imageSize
   pub core : coreOf n ≡ k
-  pub number : getD n 143 0 ≡ p
-  pub address : getD n 144 0 ≡ a
-  pub mask : getD n 145 0 ≡ q
-  pub spare : drop 146 n ≡ drop 146 m
+  pub number : getD n 146 0 ≡ p
+  pub address : getD n 147 0 ≡ a
+  pub mask : getD n 148 0 ≡ q
+  pub spare : drop 149 n ≡ drop 149 m
 
-pub lined : (m : List ℕ) → length m ≡ imageSize → Lined m m (coreOf m) (getD m 143 0) (getD m 144 0) (getD m 145 0)
+pub lined : (m : List ℕ) → length m ≡ imageSize → Lined m m (coreOf m) (getD m 146 0) (getD m 147 0) (getD m 148 0)
 lined m e = record { size = e; core = refl; number = refl; address = refl; mask = refl; spare = refl }
 
-pub became-lined : {m n : List ℕ} {k : Core} → Became m n k → Lined m n k (getD m 143 0) (getD m 144 0) (getD m 145 0)
+pub became-lined : {m n : List ℕ} {k : Core} → Became m n k → Lined m n k (getD m 146 0) (getD m 147 0) (getD m 148 0)
 became-lined w = record { size = w .size; core = w .core; number = select-kept w 0; address = select-kept w 1; mask = select-kept w 2; spare = spare-kept w }
 
 module _ {m n : List ℕ} {k : Core} {p a q : ℕ} (w : Lined m n k p a q) (v : ℕ) where
-  pub number-set : Lined m (set n 143 v) k v a q
+  pub number-set : Lined m (set n 146 v) k v a q
   number-set = record {
-    size = length-set n 143 v ∙ w .size;
-    core = select-core n 143 v (omega arith) ∙ w .core;
-    number = getD-set-same n 143 v 0 (omega (arith, w .size));
-    address = getD-set-other n 143 144 v 0 (λ e. omega arith) ∙ w .address;
-    mask = getD-set-other n 143 145 v 0 (λ e. omega arith) ∙ w .mask;
-    spare = drop-set-lt 146 n 143 v (omega arith) ∙ w .spare;
+    size = length-set n 146 v ∙ w .size;
+    core = select-core n 146 v (omega arith) ∙ w .core;
+    number = getD-set-same n 146 v 0 (omega (arith, w .size));
+    address = getD-set-other n 146 147 v 0 (λ e. omega arith) ∙ w .address;
+    mask = getD-set-other n 146 148 v 0 (λ e. omega arith) ∙ w .mask;
+    spare = drop-set-lt 149 n 146 v (omega arith) ∙ w .spare;
   }
 
-  pub address-set : Lined m (set n 144 v) k p v q
+  pub address-set : Lined m (set n 147 v) k p v q
   address-set = record {
-    size = length-set n 144 v ∙ w .size;
-    core = select-core n 144 v (omega arith) ∙ w .core;
-    number = getD-set-other n 144 143 v 0 (λ e. omega arith) ∙ w .number;
-    address = getD-set-same n 144 v 0 (omega (arith, w .size));
-    mask = getD-set-other n 144 145 v 0 (λ e. omega arith) ∙ w .mask;
-    spare = drop-set-lt 146 n 144 v (omega arith) ∙ w .spare;
+    size = length-set n 147 v ∙ w .size;
+    core = select-core n 147 v (omega arith) ∙ w .core;
+    number = getD-set-other n 147 146 v 0 (λ e. omega arith) ∙ w .number;
+    address = getD-set-same n 147 v 0 (omega (arith, w .size));
+    mask = getD-set-other n 147 148 v 0 (λ e. omega arith) ∙ w .mask;
+    spare = drop-set-lt 149 n 147 v (omega arith) ∙ w .spare;
   }
 
-  pub mask-set : Lined m (set n 145 v) k p a v
+  pub mask-set : Lined m (set n 148 v) k p a v
   mask-set = record {
-    size = length-set n 145 v ∙ w .size;
-    core = select-core n 145 v (omega arith) ∙ w .core;
-    number = getD-set-other n 145 143 v 0 (λ e. omega arith) ∙ w .number;
-    address = getD-set-other n 145 144 v 0 (λ e. omega arith) ∙ w .address;
-    mask = getD-set-same n 145 v 0 (omega (arith, w .size));
-    spare = drop-set-lt 146 n 145 v (omega arith) ∙ w .spare;
+    size = length-set n 148 v ∙ w .size;
+    core = select-core n 148 v (omega arith) ∙ w .core;
+    number = getD-set-other n 148 146 v 0 (λ e. omega arith) ∙ w .number;
+    address = getD-set-other n 148 147 v 0 (λ e. omega arith) ∙ w .address;
+    mask = getD-set-same n 148 v 0 (omega (arith, w .size));
+    spare = drop-set-lt 149 n 148 v (omega arith) ∙ w .spare;
   }
 
 pub turned-by : {m n : List ℕ} {k : Core} {p a q : ℕ} → Lined m n k p a q → Turned m n k (selectBy p a q)
@@ -150,8 +148,8 @@ high-acted RxStatusReply k = refl
 high-acted Done k = refl
 
 -- ---- the select line by its number
-pub open-of : (m : List ℕ) → (getD m 143 0 ≡ 0 → ⊥) → selectOf m ≡ Lowered (openOf m)
-open-of m h = rw (ne-eqb (getD m 143 0) 0 h)
+pub open-of : (m : List ℕ) → (getD m 146 0 ≡ 0 → ⊥) → selectOf m ≡ Lowered (openOf m)
+open-of m h = rw (ne-eqb (getD m 146 0) 0 h)
 
 pub same-open : {i j : Instruction} → Lowered i ≡ Lowered j → i ≡ j
 same-open p = cc
@@ -198,7 +196,7 @@ first-reply RxStatus k = refl
 first-reply UnknownCode k = refl
 
 -- an image that stays, with its instruction by name
-pub stayed : (m : List ℕ) (i : Instruction) → length m ≡ imageSize → (getD m 143 0 ≡ 0 → ⊥) → openOf m ≡ i → Turned m m (coreOf m) (Lowered i)
+pub stayed : (m : List ℕ) (i : Instruction) → length m ≡ imageSize → (getD m 146 0 ≡ 0 → ⊥) → openOf m ≡ i → Turned m m (coreOf m) (Lowered i)
 stayed m i e h p = record { size = e; core = refl; select = open-of m h ∙ ap Lowered p; rest = refl }
 
 -- ---- no act of an open instruction is refused, and select high has no reply

@@ -47,17 +47,17 @@ selectBy n a m = cond (eqb n 0) Raised (Lowered (instructionBy n a m))
 
 -- ---- the select line of an image: its number, then the address, then the mask
 abbrev pub selectOf : List ℕ → Select
-selectOf m = selectBy (getD m 143 0) (getD m 144 0) (getD m 145 0)
+selectOf m = selectBy (getD m 146 0) (getD m 147 0) (getD m 148 0)
 
 abbrev pub openOf : List ℕ → Instruction
-openOf m = instructionBy (getD m 143 0) (getD m 144 0) (getD m 145 0)
+openOf m = instructionBy (getD m 146 0) (getD m 147 0) (getD m 148 0)
 
 -- ---- an image m changed into n: n stands for the core k with the select line s, and the spare bytes stay
 pub record Turned (m n : List ℕ) (k : Core) (s : Select) : Type 0 where
   pub size : length n ≡ imageSize
   pub core : coreOf n ≡ k
   pub select : selectOf n ≡ s
-  pub rest : drop 146 n ≡ drop 146 m
+  pub rest : drop 149 n ≡ drop 149 m
 
 -- what an act does before the mode request
 abbrev pub performed : Act → Core → Core

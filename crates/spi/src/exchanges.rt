@@ -74,7 +74,7 @@ pub const DONE: u8 = 13;
 pub fn turn(image: &mut [u8], number: u8) -> u8
     requires { ⌜ length (now image) ≡ imageSize ⌝ }
     ensures { λ r. ⌜ r ≡ 0 ⌝ }
-    ensures { λ _. ⌜ Turned (now (image .entry)) (now (image .exit)) (coreOf (now (image .entry))) (selectBy number (getD (now (image .entry)) 144 0) (getD (now (image .entry)) 145 0)) ⌝ }
+    ensures { λ _. ⌜ Turned (now (image .entry)) (now (image .exit)) (coreOf (now (image .entry))) (selectBy number (getD (now (image .entry)) 147 0) (getD (now (image .entry)) 148 0)) ⌝ }
 {
     image[SELECT] = number;
     0
@@ -83,7 +83,7 @@ pub fn turn(image: &mut [u8], number: u8) -> u8
 pub fn turn_to(image: &mut [u8], number: u8, address: u8) -> u8
     requires { ⌜ length (now image) ≡ imageSize ⌝ }
     ensures { λ r. ⌜ r ≡ 0 ⌝ }
-    ensures { λ _. ⌜ Turned (now (image .entry)) (now (image .exit)) (coreOf (now (image .entry))) (selectBy number address (getD (now (image .entry)) 145 0)) ⌝ }
+    ensures { λ _. ⌜ Turned (now (image .entry)) (now (image .exit)) (coreOf (now (image .entry))) (selectBy number address (getD (now (image .entry)) 148 0)) ⌝ }
 {
     image[SELECT] = number;
     image[ADDRESS] = address;
@@ -93,7 +93,7 @@ pub fn turn_to(image: &mut [u8], number: u8, address: u8) -> u8
 pub fn keep_mask(image: &mut [u8], mask: u8) -> u8
     requires { ⌜ length (now image) ≡ imageSize ⌝ }
     ensures { λ r. ⌜ r ≡ 0 ⌝ }
-    ensures { λ _. ⌜ Turned (now (image .entry)) (now (image .exit)) (coreOf (now (image .entry))) (selectBy 8 (getD (now (image .entry)) 144 0) mask) ⌝ }
+    ensures { λ _. ⌜ Turned (now (image .entry)) (now (image .exit)) (coreOf (now (image .entry))) (selectBy 8 (getD (now (image .entry)) 147 0) mask) ⌝ }
 {
     image[SELECT] = MODIFY_DATA;
     image[MASK] = mask;
@@ -156,8 +156,8 @@ fn rise(address: u8) -> u8
 // A reply of READ or READ RX BUFFER.
 fn fetch(image: &mut [u8]) -> u8
     requires { ⌜ length (now image) ≡ imageSize ⌝ }
-    ensures { λ r. ⌜ r ≡ reads (coreOf (now (image .entry))) (getD (now (image .entry)) 144 0) ⌝ }
-    ensures { λ _. ⌜ Turned (now (image .entry)) (now (image .exit)) (coreOf (now (image .entry))) (selectBy (getD (now (image .entry)) 143 0) (rising (getD (now (image .entry)) 144 0)) (getD (now (image .entry)) 145 0)) ⌝ }
+    ensures { λ r. ⌜ r ≡ reads (coreOf (now (image .entry))) (getD (now (image .entry)) 147 0) ⌝ }
+    ensures { λ _. ⌜ Turned (now (image .entry)) (now (image .exit)) (coreOf (now (image .entry))) (selectBy (getD (now (image .entry)) 146 0) (rising (getD (now (image .entry)) 147 0)) (getD (now (image .entry)) 148 0)) ⌝ }
 {
     let address = image[ADDRESS];
     let reply = image::read(image, address);
@@ -169,7 +169,7 @@ fn fetch(image: &mut [u8]) -> u8
 fn write(image: &mut [u8], byte: u8) -> u8
     requires { ⌜ length (now image) ≡ imageSize ⌝ }
     ensures { λ r. ⌜ r ≡ 0 ⌝ }
-    ensures { λ _. ⌜ Turned (now (image .entry)) (now (image .exit)) (stored (coreOf (now (image .entry))) (getD (now (image .entry)) 144 0) byte) (selectBy (getD (now (image .entry)) 143 0) (rising (getD (now (image .entry)) 144 0)) (getD (now (image .entry)) 145 0)) ⌝ }
+    ensures { λ _. ⌜ Turned (now (image .entry)) (now (image .exit)) (stored (coreOf (now (image .entry))) (getD (now (image .entry)) 147 0) byte) (selectBy (getD (now (image .entry)) 146 0) (rising (getD (now (image .entry)) 147 0)) (getD (now (image .entry)) 148 0)) ⌝ }
 {
     let address = image[ADDRESS];
     stores::store(image, address, byte);
@@ -181,7 +181,7 @@ fn write(image: &mut [u8], byte: u8) -> u8
 fn change(image: &mut [u8], byte: u8) -> u8
     requires { ⌜ length (now image) ≡ imageSize ⌝ }
     ensures { λ r. ⌜ r ≡ 0 ⌝ }
-    ensures { λ _. ⌜ Turned (now (image .entry)) (now (image .exit)) (modified (coreOf (now (image .entry))) (getD (now (image .entry)) 144 0) (getD (now (image .entry)) 145 0) byte) (Select.Lowered Instruction.Done) ⌝ }
+    ensures { λ _. ⌜ Turned (now (image .entry)) (now (image .exit)) (modified (coreOf (now (image .entry))) (getD (now (image .entry)) 147 0) (getD (now (image .entry)) 148 0) byte) (Select.Lowered Instruction.Done) ⌝ }
 {
     let address = image[ADDRESS];
     let mask = image[MASK];
@@ -191,7 +191,7 @@ fn change(image: &mut [u8], byte: u8) -> u8
 
 // An exchange before a mode request is carried out.
 fn exchange_open(image: &mut [u8], byte: u8) -> u8
-    requires { ⌜ (length (now image) ≡ imageSize) × (getD (now image) 143 0 ≡ 0 → ⊥) ⌝ }
+    requires { ⌜ (length (now image) ≡ imageSize) × (getD (now image) 146 0 ≡ 0 → ⊥) ⌝ }
     ensures { λ r. ⌜ r ≡ replyTo (exchangeAct (openOf (now (image .entry))) byte) (coreOf (now (image .entry))) ⌝ }
     ensures { λ _. ⌜ Turned (now (image .entry)) (now (image .exit)) (performed (exchangeAct (openOf (now (image .entry))) byte) (coreOf (now (image .entry)))) (Select.Lowered (exchangeNext (openOf (now (image .entry))) byte)) ⌝ }
 {

@@ -10,16 +10,16 @@ use borrow.Author.Tests.{ne-eqb}
 use Rattle.bits.specs.Bit.{hasBit, written}
 use Rattle.bits.proofs.All.{every, and-left, and-right}
 use Rattle.registers.specs.declared.Region.{Region}
-use Rattle.registers.specs.declared.Region.the-variants.{Filters, Masks, Configured, Bfpctrl, Tec, Rec, Caninte, Canintf, Eflg, Canstat, Canctrl, TxCtrl, TxMessage, RxCtrl, RxMessage}
+use Rattle.registers.specs.declared.Region.the-variants.{Filters, Masks, Configured, Bfpctrl, Txrtsctrl, Tec, Rec, Caninte, Canintf, Eflg, Canstat, Canctrl, TxCtrl, TxMessage, RxCtrl, RxMessage}
 use Rattle.registers.specs.declared.TxBuffer.{TxBuffer}
 use Rattle.registers.specs.declared.TxBuffer.the-variants.{Txb0, Txb1, Txb2}
-use Rattle.registers.specs.State.{TXREQ, txNumber, inFlight, isConfiguration, updated, withConfig, withTxBytes}
+use Rattle.registers.specs.State.{TXREQ, txNumber, rtsBit, inFlight, isConfiguration, updated, withControl, withConfig, withTxBytes}
 use Rattle.registers.specs.Registers.{txAt, regionOf, writableOf}
 use Rattle.image.specs.Image.{imageSize, modeOf, flightOf, decoded, controlOf, coreOf, placeIn, Became}
 use Rattle.image.proofs.Laws.{config-set, tx-set, unmarked, mark-one, marked, became-low}
 use Rattle.image.proofs.Places.{config-byte, tx-byte}
 use Rattle.registers.proofs.Regions.{inside-of, message-above, message-below}
-use Rattle.stores.specs.Store.{isLocked, storedIn}
+use Rattle.stores.specs.Store.{isLocked, requestedOf, requestedToSend, storedIn}
 use Rattle.stores.specs.Merging.{mergesIn, takesWrite}
 
 -- ---- tests that antt has computed
@@ -74,6 +74,7 @@ sorted Filters a = not (always a) && ltb a 0x30 && not (ltb 0x2F a)
 sorted Masks a = not (always a) && ltb a 0x30 && not (ltb 0x2F a)
 sorted Configured a = not (always a) && ltb a 0x30 && not (ltb 0x2F a)
 sorted Bfpctrl a = always a
+sorted Txrtsctrl a = not (always a) && ltb a 0x30 && not (ltb 0x2F a)
 sorted Tec a = true
 sorted Rec a = true
 sorted Caninte a = always a
@@ -115,6 +116,7 @@ takes-write m a h = go (regionOf a) refl
     go Masks e p = in-configuration m a (txNumber (txAt a)) _ (rw e at (sorted-at a h))
     go Configured e p = in-configuration m a (txNumber (txAt a)) _ (rw e at (sorted-at a h))
     go Bfpctrl e p = rw (holds-true (always a) (rw e at (sorted-at a h)))
+    go Txrtsctrl e p = in-configuration m a (txNumber (txAt a)) _ (rw e at (sorted-at a h))
     go Tec e p = cc
     go Rec e p = cc
     go Caninte e p = rw (holds-true (always a) (rw e at (sorted-at a h)))
@@ -164,6 +166,8 @@ stored-merged m a v l h = go (regionOf a) refl
     go Masks e p = let b : a < 48 = ltb→lt a 48 (inside-of a Masks h e) in low Masks b (config-update m a (through Masks) b)
     go Configured e p = let b : a < 48 = ltb→lt a 48 (inside-of a Configured h e) in low Configured b (config-update m a (through Configured) b)
     go Bfpctrl e p = let b : a < 48 = ltb→lt a 48 (inside-of a Bfpctrl h e) in low Bfpctrl b (config-update m a (through Bfpctrl) b)
+    go Txrtsctrl e p =
+        let b : a < 48 = omega (arith, eqb→eq a 0x0D (inside-of a Txrtsctrl h e)) in low Txrtsctrl b (config-update m a (through Txrtsctrl) b)
     go Tec e p = let z : true ≡ false = sym p in absurd (subst T z tt)
     go Rec e p = let z : true ≡ false = sym p in absurd (subst T z tt)
     go Caninte e p = marked (mark-one (unmarked m l) 129 (through Caninte (getD m 129 0)) (omega arith) (omega arith)) _ refl
@@ -192,6 +196,7 @@ stays Filters = true
 stays Masks = true
 stays Configured = true
 stays Bfpctrl = true
+stays Txrtsctrl = true
 stays Tec = true
 stays Rec = true
 stays Caninte = true
@@ -209,6 +214,7 @@ untouched Filters m a v l p t = absurd (subst T p tt)
 untouched Masks m a v l p t = absurd (subst T p tt)
 untouched Configured m a v l p t = absurd (subst T p tt)
 untouched Bfpctrl m a v l p t = absurd (subst T p tt)
+untouched Txrtsctrl m a v l p t = absurd (subst T p tt)
 untouched Tec m a v l p t = record { size = l; core = refl; rest = refl }
 untouched Rec m a v l p t = record { size = l; core = refl; rest = refl }
 untouched Caninte m a v l p t = absurd (subst T p tt)
@@ -220,3 +226,12 @@ untouched (TxCtrl b) m a v l p t = absurd t
 untouched (TxMessage b) m a v l p t = absurd (subst T p tt)
 untouched (RxCtrl b) m a v l p t = absurd t
 untouched RxMessage m a v l p t = record { size = l; core = refl; rest = refl }
+
+-- ---- RTS of one buffer changes its TXBnCTRL alone
+pub requested-one : (m : List ℕ) (b : TxBuffer) → length m ≡ imageSize
+    → Became m (set m (132 + txNumber b) (requestedOf (controlOf m) (getD m (132 + txNumber b) 0)))
+    (withControl (coreOf m) (requestedToSend (controlOf m) (rtsBit b)))
+unfolding decoded requestedToSend
+requested-one m Txb0 l = marked (mark-one (unmarked m l) 132 (requestedOf (controlOf m) (getD m 132 0)) (omega arith) (omega arith)) _ refl
+requested-one m Txb1 l = marked (mark-one (unmarked m l) 133 (requestedOf (controlOf m) (getD m 133 0)) (omega arith) (omega arith)) _ refl
+requested-one m Txb2 l = marked (mark-one (unmarked m l) 134 (requestedOf (controlOf m) (getD m 134 0)) (omega arith) (omega arith)) _ refl

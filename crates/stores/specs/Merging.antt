@@ -1,7 +1,7 @@
 -- Which addresses have a byte that a store merges into, and when it takes the write. These sort the rules of Store by region; they add none.
 use mathlib.Core.Bool.{Bool, true, false, not}
 use Rattle.registers.specs.declared.Region.{Region}
-use Rattle.registers.specs.declared.Region.the-variants.{Filters, Masks, Configured, Bfpctrl, Tec, Rec, Caninte, Canintf, Eflg, Canstat, Canctrl, TxCtrl, TxMessage, RxCtrl, RxMessage}
+use Rattle.registers.specs.declared.Region.the-variants.{Filters, Masks, Configured, Bfpctrl, Txrtsctrl, Tec, Rec, Caninte, Canintf, Eflg, Canstat, Canctrl, TxCtrl, TxMessage, RxCtrl, RxMessage}
 use Rattle.registers.specs.declared.Control.{Control}
 use Rattle.registers.specs.State.{isConfiguration}
 use Rattle.stores.specs.Store.{isLocked}
@@ -11,6 +11,7 @@ mergesIn Filters = true
 mergesIn Masks = true
 mergesIn Configured = true
 mergesIn Bfpctrl = true
+mergesIn Txrtsctrl = true
 mergesIn Tec = false
 mergesIn Rec = false
 mergesIn Caninte = true
@@ -29,6 +30,7 @@ takesWrite Filters c = isConfiguration (c .state .mode)
 takesWrite Masks c = isConfiguration (c .state .mode)
 takesWrite Configured c = isConfiguration (c .state .mode)
 takesWrite Bfpctrl c = true
+takesWrite Txrtsctrl c = isConfiguration (c .state .mode)
 takesWrite Tec c = false
 takesWrite Rec c = false
 takesWrite Caninte c = true

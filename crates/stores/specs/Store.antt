@@ -5,7 +5,7 @@ use lib.Dec.{eqb, ltb}
 use lib.Bits.{bitAnd}
 use Rattle.bits.specs.Bit.{hasBit, setBit, clearBit, merged, written}
 use Rattle.registers.specs.declared.Region.{Region}
-use Rattle.registers.specs.declared.Region.the-variants.{Filters, Masks, Configured, Bfpctrl, Tec, Rec, Caninte, Canintf, Eflg, Canstat, Canctrl, TxCtrl, TxMessage, RxCtrl, RxMessage}
+use Rattle.registers.specs.declared.Region.the-variants.{Filters, Masks, Configured, Bfpctrl, Txrtsctrl, Tec, Rec, Caninte, Canintf, Eflg, Canstat, Canctrl, TxCtrl, TxMessage, RxCtrl, RxMessage}
 use Rattle.registers.specs.declared.TxBuffer.{TxBuffer}
 use Rattle.registers.specs.declared.TxBuffer.the-variants.{Txb0, Txb1, Txb2}
 use Rattle.registers.specs.declared.RxBuffer.{RxBuffer}
@@ -92,6 +92,7 @@ storedIn Filters k a v = configStored k a v
 storedIn Masks k a v = configStored k a v
 storedIn Configured k a v = configStored k a v
 storedIn Bfpctrl k a v = bfpctrlStored k a v
+storedIn Txrtsctrl k a v = configStored k a v
 storedIn Tec k a v = k
 storedIn Rec k a v = k
 storedIn Caninte k a v = withControl k (withCaninte (k .control) (merged (writableOf a) (k .control .flags .caninte) v))

@@ -5,7 +5,7 @@ ghost use Prim.Native.Nat.{_+_, _<_};
 ghost use lib.Dec.{eqb};
 ghost use lib.ListN.{length, getD};
 ghost use Rattle.bits.specs.Bit.{hasBit};
-ghost use Rattle.registers.specs.State.{TXREQ, txNumber, withControl, withRx};
+ghost use Rattle.registers.specs.State.{TXREQ, txNumber, rtsBit, withControl, withRx};
 ghost use Rattle.registers.specs.Registers.{txAt, regionOf};
 ghost use Rattle.image.specs.Image.{imageSize, controlOf, coreOf, Became, Acted};
 ghost use Rattle.stores.specs.Store.{
@@ -20,6 +20,7 @@ ghost use Rattle.stores.specs.Store.{
 ghost use Rattle.stores.specs.Merging.{mergesIn, takesWrite};
 use crate::control::canctrl_stored;
 use crate::control::mask_at;
+use crate::control::requested_of;
 use crate::control::requested_to_send;
 use crate::control::rxb0_stored;
 use crate::control::rxb1_stored;
@@ -130,6 +131,7 @@ fn store_register(image: &mut [u8], region: Region, at: u8, value: u8)
         Region::Masks => {}
         Region::Configured => {}
         Region::Bfpctrl => {}
+        Region::Txrtsctrl => {}
         Region::Tec => {}
         Region::Rec => {}
         Region::Caninte => {}
@@ -177,6 +179,18 @@ pub fn modify(image: &mut [u8], address: u8, mask: u8, value: u8)
     let taken = bits::choose(takes_mask(address % 128), mask, 255);
     let held = image::hold(image, address);
     store(image, address, bits::merge(taken, held, value));
+}
+
+// RTS of one buffer alone.
+pub fn request_one(image: &mut [u8], buffer: TxBuffer)
+    ensures { λ _. ⌜ Acted (now (image .entry)) (now (image .exit)) (withControl (coreOf (now (image .entry))) (requestedToSend (controlOf (now (image .entry))) (rtsBit buffer))) ⌝ }
+{
+    if image.len() != SIZE {
+        return;
+    }
+    let control = image::control_of(image);
+    let place = TXB0CTRL + (registers::tx_number(buffer) as usize);
+    image[place] = requested_of(control, image[place]);
 }
 
 // RTS for the buffers of bits 0 to 2.

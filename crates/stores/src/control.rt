@@ -205,7 +205,7 @@ pub fn tx_stored(control: Control, old: u8, value: u8) -> u8
     raised_from(old, bits::merge(tx_bits(control, old), old, value))
 }
 
-fn requested_of(control: Control, old: u8) -> u8
+pub fn requested_of(control: Control, old: u8) -> u8
     ensures { λ r. ⌜ r ≡ requestedOf control old ⌝ }
 {
     bits::choose(

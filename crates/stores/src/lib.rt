@@ -3,5 +3,6 @@ mod bytes;
 mod control;
 
 pub use bytes::modify;
+pub use bytes::request_one;
 pub use bytes::request_to_send;
 pub use bytes::store;

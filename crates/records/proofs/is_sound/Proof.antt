@@ -57,6 +57,12 @@ is-sound-plain-requires-7 c κs = search needs
 enum-told-9 : tie.Need-enum-told-9
 enum-told-9 c = search needs
 
+is-sound-pin-requires : tie.Need-is-sound-pin-requires
+is-sound-pin-requires c κs = search needs
+
+enum-told-10 : tie.Need-enum-told-10
+enum-told-10 c = search needs
+
 returns : tie.Need-returns
 unfolding soundOf kindOf recordOf
 returns c = simp (c .is-sound-plain .ensures, ← c .before .before .before .kind-by .ensures, c .before .enum-told .given .1)
@@ -91,7 +97,11 @@ returns-8 c = simp (c .is-sound-plain7 .ensures, ← c .before .before .before .
 
 returns-9 : tie.Need-returns-9
 unfolding soundOf kindOf recordOf
-returns-9 c = simp (← c .before .before .kind-by .ensures, c .enum-told9 .given .1)
+returns-9 c = simp (c .is-sound-pin .ensures, ← c .before .before .before .kind-by .ensures, c .before .enum-told9 .given .1)
+
+returns-10 : tie.Need-returns-10
+unfolding soundOf kindOf recordOf
+returns-10 c = simp (← c .before .before .kind-by .ensures, c .enum-told10 .given .1)
 
 pub is-sound-spec : {M : Type 1} → statement M
 is-sound-spec =
@@ -115,6 +125,8 @@ is-sound-spec =
     enum-told-8
     is-sound-plain-requires-7
     enum-told-9
+    is-sound-pin-requires
+    enum-told-10
     returns
     returns-2
     returns-3
@@ -123,4 +135,5 @@ is-sound-spec =
     returns-6
     returns-7
     returns-8
-    returns-9)
+    returns-9
+    returns-10)

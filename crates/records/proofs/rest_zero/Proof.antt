@@ -1,17 +1,15 @@
-use Rattle.records.specs.declared.Fields.{Fields}
 use mathlib.Core.Bool.{and-assoc}
-use native.Mathlib.Nat.{div-one}
-use native.Mathlib.Omega.{arith}
 use Rattle.records.specs.Records.{recordOf}
-use Rattle.records.proofs.Taken.{zero-four, zero-bytes}
+use borrow.Author.Needs.{needs}
 use Rattle.records.proofs.rest_zero.Statement.{statement}
 use Rattle.records.proofs.rest_zero.Tie as tie
 
+tail-zero-requires : tie.Need-tail-zero-requires
+tail-zero-requires c κs = search needs
+
 returns : tie.Need-returns
 unfolding recordOf
-returns c =
-    let f : Fields = c .before .before .before .before .args .fields in
-    simp (zero-four (f .identifier) (omega arith), zero-bytes (f .«data») 8 (omega arith), div-one, and-assoc)
+returns c = simp (c .tail-zero .ensures, and-assoc)
 
 pub rest-zero-spec : {M : Type 1} → statement M
-rest-zero-spec = tie.close (tie.spec returns)
+rest-zero-spec = tie.close (tie.spec tail-zero-requires returns)

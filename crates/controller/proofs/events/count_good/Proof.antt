@@ -3,7 +3,7 @@ use mathlib.Core.Path.{sym}
 use Rattle.image.specs.Image.{decoded}
 use Rattle.image.specs.Image.{controlOf}
 use Rattle.image.proofs.Laws.{unmarked, mark-one, marked}
-use Rattle.controller.proofs.Falling.{falling}
+use Rattle.registers.proofs.Falling.{falling}
 use borrow.Author.Needs.{needs}
 use Rattle.controller.proofs.events.count_good.Statement.{statement}
 use Rattle.controller.proofs.events.count_good.Tie as tie

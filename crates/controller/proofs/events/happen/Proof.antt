@@ -66,8 +66,17 @@ plain-requires-6 c κs = search needs
 enum-told-9 : tie.Need-enum-told-9
 enum-told-9 c = search needs
 
+move-pin-requires : tie.Need-move-pin-requires
+move-pin-requires c κs = search needs
+
 plain-requires-7 : tie.Need-plain-requires-7
 plain-requires-7 c κs = search needs
+
+enum-told-10 : tie.Need-enum-told-10
+enum-told-10 c = search needs
+
+plain-requires-8 : tie.Need-plain-requires-8
+plain-requires-8 c κs = search needs
 
 returns : tie.Need-returns
 returns c = simp (c .before .enum-told .given .1) (plainly (c .before .before .before .before .args .wanted) (c .plain .ensures), unchanged (c .before .before .before .before .args .image .now) (c .before .before .before .before .pre))
@@ -111,8 +120,14 @@ same-length-5 c = search needs
 returns-8 : tie.Need-returns-8
 returns-8 c = simp (c .before .before .before .before .before .enum-told8 .given .1) (plainly (c .before .before .before .before .before .before .before .before .args .wanted) (rw (c .before .before .before .recover .ensures .0) at (c .plain6 .ensures)), c .before .before .before .recover .ensures .1)
 
+same-length-6 : tie.Need-same-length-6
+same-length-6 c = search needs
+
 returns-9 : tie.Need-returns-9
-returns-9 c = simp (c .before .enum-told9 .given .1) (plainly (c .before .before .before .before .args .wanted) (c .plain7 .ensures), unchanged (c .before .before .before .before .args .image .now) (c .before .before .before .before .pre))
+returns-9 c = simp (c .before .before .before .before .before .enum-told9 .given .1) (plainly (c .before .before .before .before .before .before .before .before .args .wanted) (rw (c .before .before .before .move-pin .ensures .0) at (c .plain7 .ensures)), c .before .before .before .move-pin .ensures .1)
+
+returns-10 : tie.Need-returns-10
+returns-10 c = simp (c .before .enum-told10 .given .1) (plainly (c .before .before .before .before .args .wanted) (c .plain8 .ensures), unchanged (c .before .before .before .before .args .image .now) (c .before .before .before .before .pre))
 
 pub happen-spec : {M : Type 1} → statement M
 happen-spec =
@@ -138,7 +153,10 @@ happen-spec =
     recover-requires
     plain-requires-6
     enum-told-9
+    move-pin-requires
     plain-requires-7
+    enum-told-10
+    plain-requires-8
     returns
     returns-2
     returns-3
@@ -152,4 +170,6 @@ happen-spec =
     returns-7
     same-length-5
     returns-8
-    returns-9)
+    same-length-6
+    returns-9
+    returns-10)

@@ -6,7 +6,7 @@ use Rattle.image.specs.Image.{coreOf}
 use Rattle.image.proofs.Laws.{followed}
 use Rattle.receiving.proofs.Stored.{unchanged}
 use Rattle.controller.proofs.Acts.{received, plainly}
-use Rattle.controller.proofs.Falling.{received-counters}
+use Rattle.controller.proofs.Received.{received-counters}
 use borrow.Author.Needs.{needs}
 use Rattle.controller.proofs.events.hear_normal.Statement.{statement}
 use Rattle.controller.proofs.events.hear_normal.Tie as tie

@@ -45,6 +45,9 @@ refuse-recovery-requires c κs = search needs
 enum-told-9 : tie.Need-enum-told-9
 enum-told-9 c = search needs
 
+enum-told-10 : tie.Need-enum-told-10
+enum-told-10 c = search needs
+
 returns : tie.Need-returns
 returns c = simp (c .enum-told .given .1)
 
@@ -73,6 +76,9 @@ returns-8 c = simp (c .refuse-recovery .ensures, c .before .enum-told8 .given .1
 returns-9 : tie.Need-returns-9
 returns-9 c = simp (c .enum-told9 .given .1)
 
+returns-10 : tie.Need-returns-10
+returns-10 c = simp (c .enum-told10 .given .1)
+
 pub refuse-by-spec : {M : Type 1} → statement M
 refuse-by-spec =
     tie.close
@@ -91,6 +97,7 @@ refuse-by-spec =
     enum-told-8
     refuse-recovery-requires
     enum-told-9
+    enum-told-10
     returns
     returns-2
     returns-3
@@ -99,4 +106,5 @@ refuse-by-spec =
     returns-6
     returns-7
     returns-8
-    returns-9)
+    returns-9
+    returns-10)

@@ -24,8 +24,24 @@ tec-requires c κs = search needs
 
 returns-3 : tie.Need-returns-3
 unfolding regionOf
-returns-3 c = let e : c .before .before .before .before .args .at ≡ 28 = derived-last (c .before .before .before .before .args .at) (c .before .before .before .before .pre .1) (c .before .before .before .before .pre .2) (c .before .before .if1 .left) (c .before .if2 .left) in simp (c .tec .ensures, e)
+returns-3 c = simp (c .tec .ensures, c .before .if3 .taken)
+
+txrtsctrl-requires : tie.Need-txrtsctrl-requires
+txrtsctrl-requires c κs = search needs
+
+returns-4 : tie.Need-returns-4
+unfolding regionOf
+returns-4 c = let e : c .before .before .before .before .before .args .at ≡ 13 = derived-last (c .before .before .before .before .before .args .at) (c .before .before .before .before .before .pre .1) (c .before .before .before .before .before .pre .2) (c .before .before .before .if1 .left) (c .before .before .if2 .left) (c .before .if3 .left) in simp (c .txrtsctrl .ensures, e)
 
 pub derived-spec : {M : Type 1} → statement M
 derived-spec =
-    tie.close (tie.spec canstat-requires returns eflg-requires returns-2 tec-requires returns-3)
+    tie.close
+    (tie.spec
+    canstat-requires
+    returns
+    eflg-requires
+    returns-2
+    tec-requires
+    returns-3
+    txrtsctrl-requires
+    returns-4)

@@ -19,6 +19,21 @@ array-write-image-4 c = search needs
 array-write-image-5 : tie.Need-array-write-image-5
 array-write-image-5 c = search needs
 
+add-image : tie.Need-add-image
+add-image c = search needs
+
+array-write-image-6 : tie.Need-array-write-image-6
+array-write-image-6 c = search needs
+
+add-image-2 : tie.Need-add-image-2
+add-image-2 c = search needs
+
+array-write-image-7 : tie.Need-array-write-image-7
+array-write-image-7 c = search needs
+
+array-write-image-8 : tie.Need-array-write-image-8
+array-write-image-8 c = search needs
+
 returns : tie.Need-returns
 unfolding powerOnBytes encoded
 returns c = refl
@@ -32,4 +47,9 @@ power-on-spec =
     array-write-image-3
     array-write-image-4
     array-write-image-5
+    add-image
+    array-write-image-6
+    add-image-2
+    array-write-image-7
+    array-write-image-8
     returns)

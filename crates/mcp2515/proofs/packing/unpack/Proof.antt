@@ -27,14 +27,20 @@ slice-aggregate-control-of c = search needs
 control-of-requires : tie.Need-control-of-requires
 control-of-requires c κs = search needs
 
+slice-aggregate-pins-of : tie.Need-slice-aggregate-pins-of
+slice-aggregate-pins-of c = search needs
+
+pins-of-requires : tie.Need-pins-of-requires
+pins-of-requires c κs = search needs
+
 slice-aggregate-select-of : tie.Need-slice-aggregate-select-of
-slice-aggregate-select-of c = search needs
+slice-aggregate-select-of c = search (needs, c .before .before .before .before .before .before .before .before .before .before .before .good .0 .1 .0 .1)
 
 select-of-requires : tie.Need-select-of-requires
 select-of-requires c κs = search needs
 
 returns : tie.Need-returns
-returns c = let e = (c .before .before .before .before .before .before .before .before .before .before .good .0 .1 .0 .1) in simp (c .select-of .ensures .image e, c .before .before .control-of .ensures .image e, c .before .before .before .before .received-bytes .ensures, c .before .before .before .before .before .before .row-bytes2 .ensures, c .before .before .before .before .before .before .before .before .row-bytes .ensures)
+returns c = let e = (c .before .before .before .before .before .before .before .before .before .before .before .before .good .0 .1 .0 .1) in simp (c .select-of .ensures .image e, c .before .before .pins-of .ensures .image e, c .before .before .before .before .control-of .ensures .image e, c .before .before .before .before .before .before .received-bytes .ensures, c .before .before .before .before .before .before .before .before .row-bytes2 .ensures, c .before .before .before .before .before .before .before .before .before .before .row-bytes .ensures)
 
 pub unpack-spec : {M : Type 1} → statement M
 unpack-spec =
@@ -48,6 +54,8 @@ unpack-spec =
     received-bytes-requires
     slice-aggregate-control-of
     control-of-requires
+    slice-aggregate-pins-of
+    pins-of-requires
     slice-aggregate-select-of
     select-of-requires
     returns)

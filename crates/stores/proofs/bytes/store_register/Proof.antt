@@ -36,6 +36,9 @@ enum-told-10 c = search needs
 enum-told-11 : tie.Need-enum-told-11
 enum-told-11 c = search needs
 
+enum-told-12 : tie.Need-enum-told-12
+enum-told-12 c = search needs
+
 store-canctrl-requires : tie.Need-store-canctrl-requires
 store-canctrl-requires c κs = search needs
 
@@ -45,8 +48,8 @@ enum-known-region c = search needs
 store-tx-requires : tie.Need-store-tx-requires
 store-tx-requires c κs = search needs
 
-enum-told-12 : tie.Need-enum-told-12
-enum-told-12 c = search needs
+enum-told-13 : tie.Need-enum-told-13
+enum-told-13 c = search needs
 
 enum-known-region-2 : tie.Need-enum-known-region-2
 enum-known-region-2 c = search needs
@@ -54,8 +57,8 @@ enum-known-region-2 c = search needs
 store-rx-requires : tie.Need-store-rx-requires
 store-rx-requires c κs = search needs
 
-enum-told-13 : tie.Need-enum-told-13
-enum-told-13 c = search needs
+enum-told-14 : tie.Need-enum-told-14
+enum-told-14 c = search needs
 
 returns : tie.Need-returns
 returns c = untouched (c .before .before .before .args .region) (c .before .before .before .args .image .now) (c .before .before .before .args .at) (c .before .before .before .args .value) (c .before .before .before .pre .0) (c .before .before .before .pre .2) (simp (c .enum-told .given .1) tt)
@@ -87,29 +90,32 @@ returns-9 c = untouched (c .before .before .before .args .region) (c .before .be
 returns-10 : tie.Need-returns-10
 returns-10 c = untouched (c .before .before .before .args .region) (c .before .before .before .args .image .now) (c .before .before .before .args .at) (c .before .before .before .args .value) (c .before .before .before .pre .0) (c .before .before .before .pre .2) (simp (c .enum-told10 .given .1) tt)
 
+returns-11 : tie.Need-returns-11
+returns-11 c = untouched (c .before .before .before .args .region) (c .before .before .before .args .image .now) (c .before .before .before .args .at) (c .before .before .before .args .value) (c .before .before .before .pre .0) (c .before .before .before .pre .2) (simp (c .enum-told11 .given .1) tt)
+
 same-length : tie.Need-same-length
 same-length c = search needs
 
-returns-11 : tie.Need-returns-11
-returns-11 c = simp (c .before .before .before .before .enum-told11 .given .1) (c .before .before .store-canctrl .ensures)
+returns-12 : tie.Need-returns-12
+returns-12 c = simp (c .before .before .before .before .enum-told12 .given .1) (c .before .before .store-canctrl .ensures)
 
 same-length-2 : tie.Need-same-length-2
 same-length-2 c = search needs
 
-returns-12 : tie.Need-returns-12
-returns-12 c = simp (c .before .before .before .before .before .region .given .1) (c .before .before .store-tx .ensures)
-
 returns-13 : tie.Need-returns-13
-returns-13 c = untouched (c .before .before .before .args .region) (c .before .before .before .args .image .now) (c .before .before .before .args .at) (c .before .before .before .args .value) (c .before .before .before .pre .0) (c .before .before .before .pre .2) (simp (c .enum-told12 .given .1) tt)
+returns-13 c = simp (c .before .before .before .before .before .region .given .1) (c .before .before .store-tx .ensures)
+
+returns-14 : tie.Need-returns-14
+returns-14 c = untouched (c .before .before .before .args .region) (c .before .before .before .args .image .now) (c .before .before .before .args .at) (c .before .before .before .args .value) (c .before .before .before .pre .0) (c .before .before .before .pre .2) (simp (c .enum-told13 .given .1) tt)
 
 same-length-3 : tie.Need-same-length-3
 same-length-3 c = search needs
 
-returns-14 : tie.Need-returns-14
-returns-14 c = simp (c .before .before .before .before .before .region2 .given .1) (c .before .before .store-rx .ensures)
-
 returns-15 : tie.Need-returns-15
-returns-15 c = untouched (c .before .before .before .args .region) (c .before .before .before .args .image .now) (c .before .before .before .args .at) (c .before .before .before .args .value) (c .before .before .before .pre .0) (c .before .before .before .pre .2) (simp (c .enum-told13 .given .1) tt)
+returns-15 c = simp (c .before .before .before .before .before .region2 .given .1) (c .before .before .store-rx .ensures)
+
+returns-16 : tie.Need-returns-16
+returns-16 c = untouched (c .before .before .before .args .region) (c .before .before .before .args .image .now) (c .before .before .before .args .at) (c .before .before .before .args .value) (c .before .before .before .pre .0) (c .before .before .before .pre .2) (simp (c .enum-told14 .given .1) tt)
 
 pub store-register-spec : {M : Type 1} → statement M
 store-register-spec =
@@ -126,13 +132,14 @@ store-register-spec =
     enum-told-9
     enum-told-10
     enum-told-11
+    enum-told-12
     store-canctrl-requires
     enum-known-region
     store-tx-requires
-    enum-told-12
+    enum-told-13
     enum-known-region-2
     store-rx-requires
-    enum-told-13
+    enum-told-14
     returns
     returns-2
     returns-3
@@ -143,11 +150,12 @@ store-register-spec =
     returns-8
     returns-9
     returns-10
-    same-length
     returns-11
-    same-length-2
+    same-length
     returns-12
+    same-length-2
     returns-13
-    same-length-3
     returns-14
-    returns-15)
+    same-length-3
+    returns-15
+    returns-16)

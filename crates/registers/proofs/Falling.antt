@@ -1,4 +1,4 @@
--- A good frame in Normal: REC falls, by which no error flag rises, and receiving leaves the counters. Assumes nothing.
+-- A counter that falls raises no error flag: REC with a good frame, TEC with one that was sent. Assumes nothing.
 use mathlib.Core.Path.{_≡_, refl}
 use mathlib.Core.Bool.{Bool, true, false, cond, not, _&&_, _||_}
 use Prim.Native.Nat.{ℕ, _-_, _<_, _≤_}
@@ -7,15 +7,10 @@ use lib.Dec.{T, ltb, leb}
 use lib.Bits.{bitOr}
 use borrow.Author.Tests.{ltb-true, ltb-false, leb-true, le-leb, lt-leb}
 use Rattle.bits.proofs.All.{and-left, and-right}
-use Rattle.records.specs.declared.Frame.{Frame}
 use Rattle.registers.specs.declared.Counters.{Counters}
 use Rattle.registers.specs.declared.Control.{Control}
-use Rattle.registers.specs.declared.Core.{Core}
 use Rattle.registers.specs.State.{withCounters}
-use Rattle.registers.specs.Errors.{errorFlags, rises, movedTo, recLess}
-use Rattle.receiving.specs.declared.Verdict.{Verdict}
-use Rattle.receiving.specs.declared.Verdict.the-variants.{Unmatched, Stored0, Stored1, RolledOver, Lost0, Lost1}
-use Rattle.receiving.specs.Receiving.{verdictOf, matchOf, controlAfter, receivedOf}
+use Rattle.registers.specs.Errors.{errorFlags, rises, movedTo, tecLess, recLess}
 
 -- ---- the error flags by their five tests
 abbrev flagsBy : Bool → Bool → Bool → Bool → Bool → ℕ
@@ -84,15 +79,39 @@ pub falling : (c : Control) → movedTo c (recLess (c .counters)) ≡ withCounte
 unfolding movedTo
 falling c = rw (falling-flags (c .counters))
 
--- ---- receiving
-after-counters : (v : Verdict) (c : Control) (remote : Bool) → controlAfter v c remote .counters ≡ c .counters
-after-counters Unmatched c remote = refl
-after-counters (Stored0 h) c remote = refl
-after-counters (Stored1 h) c remote = refl
-after-counters (RolledOver h) c remote = refl
-after-counters Lost0 c remote = refl
-after-counters Lost1 c remote = refl
+-- ---- TEC after a frame that was sent is not above what it was, so that no flag rises: so in each of the 256 cases
+abbrev calm-sent : Bool → Bool → Bool → Bool → Bool → Bool → Bool → Bool → Bool
+calm-sent a b c d e x y z = not (rises (flagsBy a b c d e) (flagsBy (x && a) (y && b) c (z && d) e))
 
-pub received-counters : (k : Core) (f : Frame) → receivedOf k f .core .control .counters ≡ k .control .counters
-unfolding receivedOf matchOf
-received-counters k f = after-counters (verdictOf (k .control) (k .config) f) (k .control) (f .remote)
+calm-sent-always : (a b c d e x y z : Bool) → T (calm-sent a b c d e x y z)
+calm-sent-always a b c d e x y z =
+    each (λ z. calm-sent a b c d e x y z)
+    (each (λ y. both (λ z. calm-sent a b c d e x y z))
+    (each (λ x. both (λ y. both (λ z. calm-sent a b c d e x y z)))
+    (each (λ e. both (λ x. both (λ y. both (λ z. calm-sent a b c d e x y z))))
+    (each (λ d. both (λ e. both (λ x. both (λ y. both (λ z. calm-sent a b c d e x y z)))))
+    (each (λ c. both (λ d. both (λ e. both (λ x. both (λ y. both (λ z. calm-sent a b c d e x y z))))))
+    (each (λ b. both (λ c. both (λ d. both (λ e. both (λ x. both (λ y. both (λ z. calm-sent a b c d e x y z)))))))
+    (each (λ a. both (λ b. both (λ c. both (λ d. both (λ e. both (λ x. both (λ y. both (λ z. calm-sent a b c d e x y z)))))))) tt a)
+    b) c) d) e) x) y) z
+
+less-passes : (n t : ℕ) → leb n (t - 1) ≡ leb n (t - 1) && leb n t
+less-passes n t = go (leb n (t - 1)) refl
+  where
+    go : (b : Bool) → leb n (t - 1) ≡ b → b ≡ b && leb n t
+    go true e =
+        let h : n ≤ t - 1 = leb-true n (t - 1) e in
+        rw (le-leb n t (omega arith))
+    go false e = refl
+
+sent-flags : (n : Counters) → rises (errorFlags n) (errorFlags (tecLess n)) ≡ false
+unfolding errorFlags
+sent-flags n =
+    let t : ℕ = n .tec in
+    let r : ℕ = n .rec in
+    rw (less-passes 256 t, less-passes 128 t, less-passes 96 t)
+    (unrisen _ (calm-sent-always (leb 256 t) (leb 128 t) (leb 128 r) (leb 96 t) (leb 96 r) (leb 256 (t - 1)) (leb 128 (t - 1)) (leb 96 (t - 1))))
+
+pub sent-falling : (c : Control) → movedTo c (tecLess (c .counters)) ≡ withCounters c (tecLess (c .counters))
+unfolding movedTo
+sent-falling c = rw (sent-flags (c .counters))
