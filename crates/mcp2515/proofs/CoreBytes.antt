@@ -30,12 +30,13 @@ use Rattle.controller.specs.declared.End.{End}
 use Rattle.controller.specs.declared.End.the-variants.{Sent, LostArbitration, Failed}
 use Rattle.controller.specs.Sending.{endOf, sentBy, frameAt, frameSent}
 use Rattle.controller.specs.Events.{Happened, Told, ignored, goodFrame, wokenControl, answered, plain, heardIn, heardOf, endsIn, endsBy, ended, idled, pinOf, isHighLevel, fallsEnabled, pinned, happensBy, eventRefusal, toldOf, refusedBy, eventOf}
+use Rattle.image.proofs.Laws.{tx-below}
 use Rattle.spi.specs.declared.Act.the-variants.{Store}
 use Rattle.spi.specs.Instructions.{acted}
 use Rattle.mcp2515.specs.Moments.{isFree}
 use Rattle.mcp2515.proofs.CoreFacts.{Good, TxByte}
 use Rattle.mcp2515.proofs.CoreKept.{no-or}
-use Rattle.mcp2515.proofs.CoreRegions.{base-number, number-small, tx-region}
+use Rattle.mcp2515.proofs.CoreRegions.{base-number, tx-region}
 
 cond-ap : {A B : Type 0} (f : A → B) (b : Bool) (x y : A) → cond b (f x) (f y) ≡ f (cond b x y)
 cond-ap f true x y = refl
@@ -131,7 +132,7 @@ put-other : (tx : List ℕ) (a v : ℕ) (b c : TxBuffer) → TxByte b a → same
 put-other tx a v b c t e =
     frame-other tx (16 * txNumber c) (a % 128 % 48) _
     (λ n h z. eqb-false (txNumber c) (txNumber b) e
-    (omega (arith, base-number b, number-small b, number-small c, t .from, t .to)))
+    (omega (arith, base-number b, tx-below b, tx-below c, t .from, t .to)))
 
 stored-put : (k : Core) (b : TxBuffer) (a v : ℕ) → isFree k b ≡ true → TxByte b a → stored k a v ≡ withTxBytes k (bytesPut (k .tx) a v)
 unfolding stored

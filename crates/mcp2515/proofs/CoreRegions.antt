@@ -3,7 +3,7 @@ use mathlib.Core.Bool.{cond}
 use mathlib.Core.Path.{_≡_, refl}
 use Prim.Native.Nat.{ℕ, _+_, _*_, _%_, _≤_, _<_}
 use native.Mathlib.Omega.{arith}
-use lib.Dec.{ltb, lit<}
+use lib.Dec.{ltb}
 use lib.ListN.{getD}
 use borrow.Author.Tests.{lt-ltb, le-ltb, ne-eqb}
 use Rattle.registers.specs.declared.RxBuffer.{RxBuffer}
@@ -14,6 +14,7 @@ use Rattle.registers.specs.declared.Region.the-variants.{TxMessage, RxMessage}
 use Rattle.registers.specs.declared.Core.{Core}
 use Rattle.registers.specs.State.{txNumber}
 use Rattle.registers.specs.Registers.{txAt, regionOf, holds, reads}
+use Rattle.image.proofs.Laws.{tx-below}
 use Rattle.mcp2515.proofs.CoreFacts.{RxByte, txBase, TxByte}
 
 -- from 30h on, what is no control byte, CANSTAT or CANCTRL is a byte of a message
@@ -29,18 +30,13 @@ base-number Txb0 = refl
 base-number Txb1 = refl
 base-number Txb2 = refl
 
-pub number-small : (b : TxBuffer) → txNumber b < 3
-number-small Txb0 = lit< tt
-number-small Txb1 = lit< tt
-number-small Txb2 = lit< tt
-
 buffer-at : (b : TxBuffer) (a : ℕ) → TxByte b a → txAt a ≡ b
 buffer-at Txb0 a t = rw (lt-ltb a 0x40 (omega (arith, t .to)))
 buffer-at Txb1 a t = rw (le-ltb a 0x40 (omega (arith, t .from)), lt-ltb a 0x50 (omega (arith, t .to)))
 buffer-at Txb2 a t = rw (le-ltb a 0x40 (omega (arith, t .from)), le-ltb a 0x50 (omega (arith, t .from)))
 
 tx-row : (b : TxBuffer) (a : ℕ) → TxByte b a → (0x30 ≤ a) × (a < 0x60) × (0 < a % 16) × (a % 16 < 14)
-tx-row b a t = omega (arith, base-number b, number-small b, t .from, t .to)
+tx-row b a t = omega (arith, base-number b, tx-below b, t .from, t .to)
 
 pub tx-region : (b : TxBuffer) (a : ℕ) → TxByte b a → regionOf (a % 128) ≡ TxMessage b
 tx-region b a t =

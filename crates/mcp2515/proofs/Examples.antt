@@ -11,8 +11,8 @@ use Rattle.registers.specs.Modes.{entered, freeToChange, settled}
 use Rattle.registers.specs.Registers.{regionOf, writableOf, powerOnCore, allHigh, holds, reads}
 use Rattle.stores.specs.Store.{txStored, requestedOf, requestedToSend, aborted, canctrlStored, stored}
 use Rattle.receiving.specs.Receiving.{matches, setOf, matchedOf, lowestFrom, hitFor, verdictOf, matchOf, bytesStored, receivedOf}
-use Rattle.controller.specs.Sending.{bestOf, choiceOf}
-use Rattle.controller.specs.Events.{heardOf, idled, errorHeard, pinned, eventRefusal, eventOf}
+use Rattle.controller.specs.Sending.{bestOf, choiceOf, sentBy}
+use Rattle.controller.specs.Events.{heardOf, idled, ended, errorHeard, pinned, eventRefusal, eventOf}
 use Rattle.registers.specs.declared.Flags.{Flags}
 use Rattle.registers.specs.declared.Mode.the-variants.{Normal}
 use Rattle.registers.specs.declared.Flight.the-variants.{Idle}
@@ -47,6 +47,10 @@ remote = 3 ∷ 2 ∷ 0 ∷ 0 ∷ 0 ∷ 0 ∷ 1 ∷ 0x23 ∷ 0 ∷ 0 ∷ 0 ∷ 0 
 abbrev idle : List ℕ
 idle = row 4 0
 
+-- the own frame in flight is sent
+abbrev sent : List ℕ
+sent = row 5 0
+
 abbrev error : List ℕ
 error = row 6 0
 
@@ -61,8 +65,8 @@ normal = low ∷ byte 0x02 ∷ byte 0x0F ∷ byte 0x00 ∷ high ∷ []
 -- To open this is to open all that a run looks through.
 tidied : List (List ℕ) → List (List ℕ)
 unfolding kindOf frameOf soundOf errorFlags movedTo entered freeToChange settled regionOf writableOf powerOnCore holds reads
-    txStored requestedOf requestedToSend aborted canctrlStored stored matches setOf matchedOf lowestFrom hitFor verdictOf matchOf bytesStored receivedOf bestOf choiceOf
-    heardOf idled errorHeard pinned eventRefusal eventOf bufferCommand commandOf powerOn asked turned stepOf chipAfter outcomes roleOf trace noFall listedBy events
+    txStored requestedOf requestedToSend aborted canctrlStored stored matches setOf matchedOf lowestFrom hitFor verdictOf matchOf bytesStored receivedOf bestOf choiceOf sentBy
+    heardOf idled ended errorHeard pinned eventRefusal eventOf bufferCommand commandOf powerOn asked turned stepOf chipAfter outcomes roleOf trace noFall listedBy events
     others bytes before after placed session tidyFrom tidy records outs
 tidied rs = records (tidy 0 (trace powerOn rs))
 
@@ -215,6 +219,27 @@ risen = pin 0 ∷ (enabled ++ (low ∷ byte 0x41 ∷ byte 0xAA ∷ pin 1 ∷ byt
 risen-tidied : tidied risen ≡ pin 0 ∷ (enabled ++ (pin 1 ∷ low ∷ byte 0x41 ∷ byte 0xAA ∷ byte 0xBB ∷ high ∷ []))
 unfolding tidied
 risen-tidied = refl
+
+-- ---- LOAD TX BUFFER of a buffer that is locked at select low, and sent between two data bytes
+-- by TXREQ alone: it starts inside
+abbrev requested : List (List ℕ)
+requested = normal ++ (low ∷ byte 0x81 ∷ high ∷ [])
+
+abbrev waiting : List (List ℕ)
+waiting = requested ++ (low ∷ byte 0x41 ∷ byte 0xAA ∷ idle ∷ sent ∷ byte 0xBB ∷ high ∷ [])
+
+-- by the flight alone: it has started, and its TXREQ was cleared
+abbrev flying : List (List ℕ)
+flying = requested ++ (idle ∷ low ∷ byte 0x02 ∷ byte 0x30 ∷ byte 0x00 ∷ high ∷ low ∷ byte 0x41 ∷ byte 0xAA ∷ sent ∷ byte 0xBB ∷ high ∷ [])
+
+-- neither is listed, and both stay as they are; the first byte finds the buffer locked, and the second does not
+waiting-kept : (tidied waiting ≡ waiting) × (loaded waiting ≡ 0x00 ∷ 0xBB ∷ [])
+unfolding tidied
+waiting-kept = (refl, refl)
+
+flying-kept : (tidied flying ≡ flying) × (loaded flying ≡ 0x00 ∷ 0xBB ∷ [])
+unfolding tidied
+flying-kept = (refl, refl)
 
 -- ---- after power-on TXRTSCTRL holds and reads the levels of three pins that are high
 power-on-levels : (holds (powerOn .core) 0x0D ≡ 0x38) × (reads (powerOn .core) 0x0D ≡ 0x38)

@@ -386,10 +386,6 @@ acted-pins FetchStatus k = refl
 acted-pins FetchRxStatus k = refl
 acted-pins (Refuse n) k = refl
 
-received-pins : (k : Core) (f : Frame) → receivedOf k f .core .pins ≡ k .pins
-unfolding receivedOf
-received-pins k f = refl
-
 heard-pins : (m : Mode) (k : Core) (f : Frame) → heardIn m k f .core .pins ≡ k .pins
 unfolding receivedOf
 heard-pins Normal k f = either (λ (h : Received). h .core .pins ≡ k .pins) (isBusOff (k .control .counters)) {x = ignored k} {y = goodFrame k f} refl refl

@@ -16,7 +16,7 @@ use Rattle.registers.specs.declared.TxBuffer.the-variants.{Txb0, Txb1, Txb2}
 use Rattle.registers.specs.State.{TXREQ, txNumber, rtsBit, inFlight, isConfiguration, updated, withControl, withConfig, withTxBytes}
 use Rattle.registers.specs.Registers.{txAt, regionOf, writableOf}
 use Rattle.image.specs.Image.{imageSize, modeOf, flightOf, decoded, controlOf, coreOf, placeIn, Became}
-use Rattle.image.proofs.Laws.{config-set, tx-set, unmarked, mark-one, marked, became-low}
+use Rattle.image.proofs.Laws.{tx-below, config-set, tx-set, unmarked, mark-one, marked, became-low}
 use Rattle.image.proofs.Places.{config-byte, tx-byte}
 use Rattle.registers.proofs.Regions.{inside-of, message-above, message-below}
 use Rattle.stores.specs.Store.{isLocked, requestedOf, requestedToSend, storedIn}
@@ -32,11 +32,6 @@ holds-false true t = absurd t
 holds-false false t = refl
 
 -- ---- which writes are taken
-tx-small : (b : TxBuffer) → txNumber b < 3
-tx-small Txb0 = omega arith
-tx-small Txb1 = omega arith
-tx-small Txb2 = omega arith
-
 flight-number : (x : ℕ) (b : TxBuffer) → inFlight (flightOf x) b ≡ eqb x (txNumber b)
 flight-number zero Txb0 = refl
 flight-number zero Txb1 = refl
@@ -47,7 +42,7 @@ flight-number (suc zero) Txb2 = refl
 flight-number (suc (suc zero)) Txb0 = refl
 flight-number (suc (suc zero)) Txb1 = refl
 flight-number (suc (suc zero)) Txb2 = refl
-flight-number (suc (suc (suc x))) b = simp (apart 0 (omega arith), apart 1 (omega arith), apart 2 (omega arith), apart (txNumber b) (tx-small b))
+flight-number (suc (suc (suc x))) b = simp (apart 0 (omega arith), apart 1 (omega arith), apart 2 (omega arith), apart (txNumber b) (tx-below b))
   where
     apart : (k : ℕ) → k < 3 → eqb (suc (suc (suc x))) k ≡ false
     apart k h = ne-eqb (suc (suc (suc x))) k (λ e. omega arith)
@@ -63,7 +58,7 @@ locked-at m Txb1 = simp flight-number
 locked-at m Txb2 = simp flight-number
 
 pub buffer-small : (a : ℕ) → txNumber (txAt a) < 3
-buffer-small a = tx-small (txAt a)
+buffer-small a = tx-below (txAt a)
 
 -- the code's tests at the addresses of each region
 abbrev always : ℕ → Bool
