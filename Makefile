@@ -102,4 +102,4 @@ help:
 	@echo "make check      the whole gate: tests, proofs from nothing, must-fail edits (25 to 45 minutes)"
 	@echo "make clean      remove what was built"
 	@echo "ARCHIVE=.. takes another archive, REPLAY=.. another replay program"
-	@echo "make -C bench check | compare | live | pairs | header | speed | stack | mutate    the C side alone; see bench/Makefile"
+	@echo "make -C bench check | compare | live | pairs | same | header | speed | stack | mutate    the C side alone; see bench/Makefile"

@@ -22,7 +22,7 @@ struct case_group {
 };
 
 /* Tables of cases_marked.c, cases_spi.c, cases_reset.c, cases_bus.c, cases_length.c,
- * cases_match.c, cases_set.c and cases_pins.c. */
+ * cases_match.c, cases_set.c, cases_pins.c and cases_panel.c. */
 extern const struct case_group marked_cases; /* W1 to W12, bench errors, refusals */
 extern const struct case_group spi_cases;    /* registers and instructions */
 extern const struct case_group reset_cases;  /* RESET: kept, cleared, and what follows */
@@ -31,6 +31,7 @@ extern const struct case_group length_cases; /* length codes */
 extern const struct case_group match_cases;  /* the bits that filters and masks decide by */
 extern const struct case_group set_cases;    /* all filters that match */
 extern const struct case_group pins_cases;   /* the request pins */
+extern const struct case_group panel_cases;  /* a panel on the same SPI lines */
 
 /* All tables one after another, in this order. */
 size_t case_count(void);

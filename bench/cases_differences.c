@@ -222,6 +222,42 @@ static void all_three(void)
                    (const uint8_t[]){0, 0, 0, 1, 2, 0, 0, 3, 0, 0});
 }
 
+/* ---- who speaks ---- */
+
+/* Byte 2 of the select low alone: the records behind it are the same, and refused. */
+static void speaker_alone(void)
+{
+    sc_read(&first, CANCTRL, 0x87);
+    sc_read(&second, CANCTRL, 0);
+    second.records[2] = SPEAKER_PANEL;
+    expect_entries("who selected differs", 5,
+                   (const uint8_t[]){
+                       0, 0, 0, 1, 0, 0x00, 0,  0, 0, 0,
+                       0, 0, 0, 2, 0, 0x00, 18, 0, 0, 0,
+                       0, 0, 0, 3, 0, 0x00, 18, 0, 0, 0,
+                       0, 0, 0, 4, 0, 0x87, 18, 0, 0, 0,
+                       0, 0, 0, 5, 0, 0x00, 18, 0, 0, 0,
+                   });
+}
+
+/* The same RTS by the one and by the other, both accepted; the panel requests nothing. */
+static void speaker_of_a_session(void)
+{
+    sc_rts(&first, 1);
+    second.speaker = SPEAKER_PANEL;
+    sc_rts(&second, 1);
+    second.speaker = SPEAKER_CONTROLLER;
+    sc_status(&first, 0x04);
+    sc_status(&second, 0x00);
+    expect_entries("who speaks in a session differs", 4,
+                   (const uint8_t[]){
+                       0, 0, 0, 1, 0, 0x00, 0, 0x00, 0, 0,
+                       0, 0, 0, 2, 0, 0x00, 0, 0x00, 0, 0,
+                       0, 0, 0, 3, 0, 0x00, 0, 0x00, 0, 0,
+                       0, 0, 0, 6, 0, 0x04, 0, 0x00, 0, 0,
+                   });
+}
+
 /* ---- the set ---- */
 
 /* RXF2 takes SIDH 00h or 01h, as RXF3 to RXF5 take 00h; RXF0 and RXF1 take any. */
@@ -596,6 +632,8 @@ void pair_cases(pair_check *check)
     record_and_refusal();
     record_and_answer();
     all_three();
+    speaker_alone();
+    speaker_of_a_session();
     set_alone();
     set_of_own_frame_alone();
     each_bit_of_the_set();

@@ -5,7 +5,7 @@
 
 static const struct case_group *const groups[] = {&marked_cases, &spi_cases, &reset_cases,
                                                   &bus_cases, &length_cases, &match_cases,
-                                                  &set_cases, &pins_cases};
+                                                  &set_cases, &pins_cases, &panel_cases};
 
 size_t case_count(void)
 {
@@ -237,13 +237,21 @@ static void refusal_1(struct script *s)
     sc_refused(AT, REFUSED_SELECT, KIND_EXCHANGE, 0);
 }
 
+/* Data of a frame past its length code is not named. */
+static bool is_named(uint8_t kind, unsigned byte)
+{
+    static const uint8_t first[KINDS] = {2, 1, 2, 1, 1, 1, 1, 1, 1};
+    static const uint8_t last[KINDS] = {2, 2, 2, 2, 0, 1, 1, 0, 2};
+    return (byte >= first[kind] && byte <= last[kind]) ||
+           (kind == KIND_FRAME && byte >= 4 && byte < 8);
+}
+
 static void unnamed_bytes(struct script *s)
 {
-    static const uint8_t named[KINDS] = {0, 1, 0, 2, 0, 1, 1, 0, 2}; /* 3 is named in part */
     for (uint8_t kind = 0; kind < KINDS; kind++)
-        for (unsigned i = named[kind] + 1u; i < RECORD_BYTES; i++) {
+        for (unsigned i = 1; i < RECORD_BYTES; i++) {
             uint8_t record[RECORD_BYTES] = {kind};
-            if (kind == KIND_FRAME && i >= 4 && i < 8)
+            if (is_named(kind, i))
                 continue;
             record[i] = i % 2 ? 0x80 : 0x01;
             sc_raw(AT, record, REFUSED_FIELD, 0);
@@ -256,6 +264,9 @@ static void field_ranges(struct script *s)
         sc_refused(AT, REFUSED_FIELD, (uint8_t)kind, 0);
     for (unsigned value = 0; value < 256; value++) {
         uint8_t record[RECORD_BYTES] = {KIND_FRAME, 0, (uint8_t)value};
+        uint8_t speaker[RECORD_BYTES] = {(uint8_t)(value % 3), 0, (uint8_t)value};
+        if (value >= 2)
+            sc_raw(AT, speaker, REFUSED_FIELD, 0);
         if (value >= 4)
             sc_refused(AT, REFUSED_FIELD, KIND_FRAME, (uint8_t)value);
         if (value >= 16)
@@ -302,7 +313,7 @@ static void data_past_length_code(struct script *s)
 
 static void refusal_2_comes_first(struct script *s)
 {
-    uint8_t damaged[RECORD_BYTES] = {KIND_EXCHANGE, 0, 1};
+    uint8_t damaged[RECORD_BYTES] = {KIND_EXCHANGE, 0, SPEAKERS};
     sc_raw(AT, damaged, REFUSED_FIELD, 0);
     sc_refused(AT, REFUSED_FIELD, KIND_FRAME_ENDS, 3);
     sc_mode(AT, MODE_NORMAL);

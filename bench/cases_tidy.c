@@ -578,6 +578,178 @@ static void pin_loads(struct tidied_list *t)
                 one_pin_read_rx(t, (uint8_t)code, n, before);
 }
 
+/* ---- sessions of the panel ---- */
+
+/* The next records are a session of the panel. */
+static void panel_low(struct tidied_list *t)
+{
+    t->s.speaker = SPEAKER_PANEL;
+    low(t);
+}
+
+static void panel_high(struct tidied_list *t, enum place place)
+{
+    end_session(t, place);
+    t->s.speaker = SPEAKER_CONTROLLER;
+}
+
+/* Codes that do something, and what the panel must not send, which counts as unknown. */
+static bool is_known_of_panel(uint8_t code)
+{
+    return code == SPI_READ || code == SPI_READ_STATUS || code == SPI_RX_STATUS || code == 0x84;
+}
+
+static enum place panel_place(uint8_t code, unsigned last, unsigned exchanges, unsigned before)
+{
+    if (!is_known_of_panel(code))
+        return exchanges <= 1 ? FRONT : STAYS;
+    return command_place(code, last, exchanges, before);
+}
+
+static void one_panel_command(struct tidied_list *t, uint8_t code, unsigned last,
+                              unsigned exchanges, unsigned before)
+{
+    start(t, "panel: code %02Xh, %u exchanges, event after %u", code, exchanges, before);
+    sc_mode(&t->s, MODE_NORMAL);
+    panel_low(t);
+    for (unsigned i = 0; i <= exchanges; i++) {
+        if (i == before)
+            sc_rx_error(event(t), 1);
+        if (i < exchanges)
+            sc_xfer(&t->s, i == 0 ? code : REC, code == SPI_READ && i == 2 && before <= 2 ? 8 : 0);
+    }
+    panel_high(t, panel_place(code, last, exchanges, before));
+    sc_read(&t->s, REC, 8);
+    check_list(t);
+}
+
+static void panel_commands(struct tidied_list *t)
+{
+    static const uint8_t others[] = {0x90, 0x92, 0x40, 0x41, 0x42, 0x43};
+    for (size_t c = 0; c < sizeof commands / sizeof *commands; c++)
+        for (unsigned exchanges = 0; exchanges <= commands[c].last + 1; exchanges++)
+            for (unsigned before = 0; before <= exchanges; before++)
+                one_panel_command(t, commands[c].code, commands[c].last, exchanges, before);
+    for (size_t c = 0; c < sizeof others; c++)
+        for (unsigned exchanges = 1; exchanges <= 3; exchanges++)
+            for (unsigned before = 0; before <= exchanges; before++)
+                one_panel_command(t, others[c], 1, exchanges, before);
+}
+
+/* 94h, 96h, 44h and 45h up to data byte 7 and past it, where they reply 0. */
+static void one_panel_length(struct tidied_list *t, size_t b, unsigned bytes, unsigned before)
+{
+    unsigned at = buffers[b].start - 1u;
+    start(t, "panel: code %02Xh and %u bytes, frame after %u", buffers[b].code, bytes, before);
+    fill_both(&t->s);
+    panel_low(t);
+    for (unsigned i = 0; i <= bytes + 1; i++) {
+        bool past = i > buffers[b].most;
+        if (i == before)
+            hear(t, RX_LOST, ALL);
+        if (i == 0)
+            sc_xfer(&t->s, buffers[b].code, 0);
+        else if (i <= bytes)
+            sc_xfer(&t->s, 0x07, past ? 0 : reply_to(buffers[b].code, (uint8_t)(at + i), false));
+    }
+    panel_high(t, bytes <= buffers[b].most ? FRONT : STAYS);
+    sc_read(&t->s, CANINTF, buffers[b].code < SPI_READ_RX ? 0x23 : 0x21);
+    check_list(t);
+}
+
+static void panel_buffers(struct tidied_list *t)
+{
+    static const unsigned lengths[] = {0, 1, 7, 8, 9, 12, 13, 14, 130};
+    for (size_t b = 0; b < sizeof buffers / sizeof *buffers; b++) {
+        uint8_t code = buffers[b].code;
+        if (code != 0x94 && code != 0x96 && code != 0x44 && code != 0x45)
+            continue;
+        for (size_t i = 0; i < sizeof lengths / sizeof *lengths; i++) {
+            one_panel_length(t, b, lengths[i], 0);
+            one_panel_length(t, b, lengths[i], 1);
+            one_panel_length(t, b, lengths[i], lengths[i] + 1);
+        }
+    }
+}
+
+/* RX1IF set at select low or not; RX0IF does not matter. */
+static void one_panel_read_rx(struct tidied_list *t, uint8_t code, uint8_t flags)
+{
+    start(t, "panel: code %02Xh, CANINTF %02Xh at select low", code, flags);
+    sc_mode(&t->s, MODE_NORMAL);
+    sc_write(&t->s, CANINTF, flags);
+    panel_low(t);
+    sc_xfer(&t->s, code, 0);
+    sc_xfer(&t->s, 0, 0);
+    hear(t, flags & RX0IF ? RX_LOST : RX_IN_RXB0, ALL);
+    panel_high(t, flags & RX1IF ? FRONT : STAYS);
+    check_list(t);
+}
+
+/* TXB2 free at select low or not, or its pin falls inside. */
+static void one_panel_load(struct tidied_list *t, uint8_t code, uint8_t n, unsigned before)
+{
+    bool cuts = n == 2;
+    start(t, "panel: code %02Xh, pin %u falls after %u", code, n, before);
+    before_pin_event(&t->s, PIN_FALLS, n);
+    t->s.speaker = SPEAKER_PANEL;
+    load_two(t, code, n, PIN_FALLS, before);
+    panel_high(t, cuts ? STAYS : FRONT);
+    t->fall = !cuts ? NO_FALL : before < 2 ? FALL_ALIKE : FALL_DIFFERS;
+    read_two(t, code, !cuts || before >= 2, !cuts || before >= 3);
+    sc_read(&t->s, (uint8_t)(TXB0CTRL + 0x10 * n), TXREQ);
+    check_list(t);
+}
+
+static void one_panel_busy_load(struct tidied_list *t, uint8_t code, unsigned busy)
+{
+    start(t, "panel: code %02Xh, TXB%u requested", code, busy);
+    sc_mode(&t->s, MODE_NORMAL);
+    sc_rts(&t->s, (uint8_t)(1u << busy));
+    panel_low(t);
+    sc_xfer(&t->s, code, 0);
+    sc_idle(event(t), (uint8_t)busy);
+    sc_xfer(&t->s, 0x5A, 0);
+    panel_high(t, busy == 2 ? STAYS : FRONT);
+    check_list(t);
+}
+
+/* Records of the other inside are refused, and keep their place in the session. */
+static void one_cut_in(struct tidied_list *t, uint8_t owner, uint8_t kind, unsigned before)
+{
+    start(t, "speaker %u, kind %u by the other, event after %u", owner, kind, before);
+    sc_mode(&t->s, MODE_NORMAL);
+    t->s.speaker = owner;
+    low(t);
+    for (unsigned i = 0; i <= 3; i++) {
+        t->s.speaker = !owner;
+        sc_refused(&t->s, kind == KIND_SELECT_LOW ? REFUSED_SELECT : REFUSED_SPEAKER, kind, 0);
+        t->s.speaker = owner;
+        if (i == before)
+            sc_rx_error(event(t), 1);
+        if (i < 3)
+            sc_xfer(&t->s, i == 0 ? SPI_READ : REC, i == 2 && before <= 2 ? 8 : 0);
+    }
+    panel_high(t, before < 3 ? FRONT : BEHIND);
+    check_list(t);
+}
+
+static void panel_sessions(struct tidied_list *t)
+{
+    panel_commands(t);
+    panel_buffers(t);
+    for (unsigned flags = 0; flags < 256; flags++)
+        one_panel_read_rx(t, flags & 4 ? 0x94 : 0x96, (uint8_t)flags);
+    for (uint8_t code = 0x44; code <= 0x45; code++)
+        for (uint8_t n = 0; n < 3; n++) {
+            one_panel_busy_load(t, code, n);
+            for (unsigned before = 0; before <= 3; before++)
+                one_panel_load(t, code, n, before);
+        }
+    for (unsigned i = 0; i < 2 * 3 * 4; i++)
+        one_cut_in(t, i & 1, (uint8_t)(i / 2 % 3), i / 6);
+}
+
 void tidied_lists(tidied_check *check)
 {
     struct tidied_list t = {0};
@@ -592,5 +764,6 @@ void tidied_lists(tidied_check *check)
     pin_commands(&t);
     pin_registers(&t);
     pin_loads(&t);
+    panel_sessions(&t);
     script_free(&t.s);
 }

@@ -25,7 +25,8 @@ enum {
     AT_PINS,
     AT_OPEN = AT_PINS + REQUEST_PINS,
     AT_ADDRESS,
-    AT_MASK
+    AT_MASK,
+    AT_SPEAKER
 };
 
 _Static_assert((int)AT_TEC_LOW == MCP2515_PLACE_TEC_LOW, "place of TEC's low byte");
@@ -34,6 +35,7 @@ _Static_assert((int)AT_FLIGHT == MCP2515_PLACE_FLIGHT, "place of the flight");
 _Static_assert((int)AT_REQUEST == MCP2515_PLACE_MODE_REQUESTED, "place of the mode request");
 _Static_assert((int)AT_PINS == MCP2515_PLACE_PINS, "place of the pins");
 _Static_assert((int)AT_OPEN == MCP2515_PLACE_OPEN, "place of the open instruction");
+_Static_assert((int)AT_SPEAKER == MCP2515_PLACE_SPEAKER, "place of who selected");
 
 /* Place AT_OPEN by number; READ RX BUFFER goes on as a READ that clears a flag. */
 static const struct {
@@ -72,12 +74,14 @@ static bool has_address(uint8_t open)
            open == OPEN_MODIFY_DATA;
 }
 
+/* Who selected counts while select is low. */
 static void decode_open(const uint8_t *chip, struct model *m)
 {
     size_t number = chip[AT_OPEN] < OPEN_NUMBERS ? chip[AT_OPEN] : OPEN_NUMBERS - 1;
     m->open = open_by_number[number].open;
     m->clears = open_by_number[number].clears;
-    m->selected = m->open != OPEN_NONE;
+    if (m->open != OPEN_NONE)
+        m->selected = chip[AT_SPEAKER] ? SELECT_BY_PANEL : SELECT_BY_CONTROLLER;
     if (has_address(m->open))
         m->pointer = chip[AT_ADDRESS] & 0x7F;
     if (m->open == OPEN_MODIFY_DATA)

@@ -2,8 +2,8 @@
  * The proved whole-log call against the second model, and with the sets the
  * same logs record by record: fixed cases, the whole-log rule, random logs of
  * every sort, and the tidied list seen from outside. The first difference ends
- * the run with status 1. Sets and pin records of every sort are counted, and none
- * may be rare.
+ * the run with status 1. Sets, pin records and what the panel does are counted by
+ * sort, and none may be rare.
  *
  *   compare [records [seed]]
  */
@@ -19,6 +19,7 @@
 #include "gen.h"
 #include "mcp2515.h"
 #include "model.h"
+#include "panel_met.h"
 #include "pins_met.h"
 #include "registers.h"
 #include "script.h"
@@ -135,7 +136,8 @@ static void stop_at_record(const char *what, const uint8_t *log, size_t i, const
 
 enum { OWN_IN_FLIGHT, NOT_LISTENING, WOKE, NOT_HEARD };
 
-static unsigned long long sets_met[SETS_MET], would_match[NOT_HEARD], pins_met[PINS_MET];
+static unsigned long long sets_met[SETS_MET], would_match[NOT_HEARD], pins_met[PINS_MET],
+    panel_met[PANELS_MET];
 
 /* A frame that the chip did not receive, if filters would have matched it. */
 static void count_not_heard(const struct model *m, const uint8_t *record, const uint8_t *outcome)
@@ -183,6 +185,7 @@ static void compare_sets(const uint8_t *log, size_t records, struct call *c)
         struct model before = m;
         model_step_set(&m, record, &want[0], &want[1], &want[2]);
         count_pin(pins_met, &before, record, want[0]);
+        count_panel(panel_met, &before, record, want[0], want[1], &m);
         if (mcp2515_step_set(chip, sizeof chip, record, RECORD_BYTES, got, sizeof got) !=
             OUTCOME_BYTES)
             stop("result of mcp2515_step_set");
@@ -232,6 +235,18 @@ static void demand_pins(unsigned long long records, const struct tidy_tally *tal
     demand("pin record moved in front of a command", tally->pins_before, records / 5000);
     demand("pin record moved behind a command", tally->pins_after, records / 5000);
     demand("refused pin record moved with a command", tally->refused_pins, records / 5000);
+}
+
+static void demand_panel(unsigned long long records, const struct tidy_tally *tally)
+{
+    for (unsigned i = 0; i < PANELS_MET; i++)
+        demand(panel_met_name[i], panel_met[i], records / 20000);
+    for (unsigned i = 0; i < TIDY_COMMANDS; i++) {
+        char text[64];
+        snprintf(text, sizeof text, "panel: listed %s with events", tidy_command_name[i]);
+        if (i != TIDY_RESET && i != TIDY_BIT_MODIFY && i != TIDY_WRITE)
+            demand(text, tally->panel_with_events[i], records / 50000);
+    }
 }
 
 /* Runs a log by both and compares; model_answers gets the model's answers. */
@@ -440,6 +455,8 @@ static void some_log(uint64_t *state, uint8_t *log, size_t records)
                 records);
     if (pick >= 84)
         gen_damage(seed_of_log, log, records);
+    if (pick % 8 == 1)
+        gen_swap_speakers(seed_of_log, log, records);
 }
 
 static void check_random(uint64_t *state, unsigned long long records, uint8_t *log,
@@ -471,7 +488,10 @@ static void end_probe(struct script *s)
 {
     script_clear(s);
     for (unsigned round = 0; round < 2; round++) {
+        s->speaker = SPEAKER_PANEL;
         sc_high(s); /* ends a session that was left open, or is refused */
+        s->speaker = SPEAKER_CONTROLLER;
+        sc_high(s);
         sc_low(s);
         sc_xfer(s, SPI_READ, 0);
         sc_xfer(s, 0, 0);
@@ -569,6 +589,7 @@ int main(int argc, char **argv)
     demand("LOAD cut by a fall that tidying would not change", fall_alike, 1);
     demand_sets(records);
     demand_pins(records, &tally);
+    demand_panel(records, &tally);
     free(log);
     free(model_answers);
     printf("no difference\n");

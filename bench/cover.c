@@ -29,6 +29,30 @@ static void hit_if(struct cover *c, bool condition, unsigned point)
         c->count[point]++;
 }
 
+/* ---- codes ---- */
+
+uint8_t cover_code(const struct model *before, const uint8_t *record)
+{
+    static const uint8_t of_panel[] = {SPI_READ, SPI_READ_STATUS, SPI_RX_STATUS, 0x94,
+                                       0x96,     0x44,            0x45,          0x84};
+    if (before->selected != SELECT_BY_PANEL)
+        return record[1];
+    return memchr(of_panel, record[1], sizeof of_panel) ? record[1] : 0;
+}
+
+bool cover_is_reset(const struct model *before, const uint8_t *record)
+{
+    return record[0] == KIND_EXCHANGE && before->open == OPEN_CODE &&
+           cover_code(before, record) == SPI_RESET;
+}
+
+/* Behind data byte 7 of the panel's READ RX BUFFER or LOAD. */
+static bool is_stopped(const struct model *m)
+{
+    bool reads = m->open == OPEN_READ && m->clears != 0, writes = m->open == OPEN_WRITE;
+    return m->selected == SELECT_BY_PANEL && (reads || writes) && (m->pointer & 0x0F) > D7;
+}
+
 /* ---- RESET ---- */
 
 const uint8_t cover_reset_bits[COVER_ADDRESSES] = {
@@ -437,11 +461,14 @@ static void aborted(struct cover *c, const struct model *before, const struct mo
 static void exchanged(struct cover *c, const struct model *before, const uint8_t *r,
                       const struct model *after)
 {
+    uint8_t code = cover_code(before, r);
+    if (is_stopped(before))
+        return;
     switch (before->open) {
     case OPEN_CODE:
-        hit_if(c, r[1] > SPI_RTS && r[1] < SPI_RTS + 8 && (before->reg[CANCTRL] & ABAT),
+        hit_if(c, code > SPI_RTS && code < SPI_RTS + 8 && (before->reg[CANCTRL] & ABAT),
                COVER_ABAT_BARS);
-        hit_if(c, r[1] == SPI_RTS, COVER_RTS_NONE);
+        hit_if(c, code == SPI_RTS, COVER_RTS_NONE);
         break;
     case OPEN_READ_ADDRESS:
         hit_if(c, r[1] > 0x7F, COVER_READ_ABOVE);
@@ -532,7 +559,7 @@ static void session_ended(struct cover *c, const struct model *before)
     hit_if(c, before->clears & rose & c->code_flags, COVER_READ_RX_LATE);
     hit_if(c, before->reg[CANINTF] & before->clears, COVER_READ_RX_CLEARS);
     hit_if(c, before->reg[CANINTF] & before->clears & RX1IF, COVER_READ_RX1_CLEARS);
-    if (c->events == 0 || !buffer_was_ready(c))
+    if (c->events == 0 || !buffer_was_ready(c) || before->selected == SELECT_BY_PANEL)
         return;
     for (unsigned i = 0; i < COVER_BUFFER_CODES; i++)
         for (unsigned j = 0; j < COVER_LENGTHS; j++)
@@ -550,7 +577,7 @@ static void sessions(struct cover *c, const struct model *before, const uint8_t 
         c->exchanges = c->events = 0;
     } else if (r[0] == KIND_EXCHANGE) {
         if (c->exchanges++ == 0) {
-            c->code = r[1];
+            c->code = cover_code(before, r);
             c->code_flags = before->reg[CANINTF];
         }
     } else if (r[0] == KIND_SELECT_HIGH) {
@@ -596,7 +623,7 @@ void cover_step(struct cover *c, const struct model *before, const uint8_t *reco
         break;
     }
     let_go(c, before, record, answer, after);
-    if (record[0] == KIND_EXCHANGE && before->open == OPEN_CODE && record[1] == SPI_RESET)
+    if (cover_is_reset(before, record))
         reset_met(c, before);
 }
 
@@ -608,6 +635,7 @@ struct model cover_log(struct cover *c, const uint8_t *log, size_t records)
     c->reset_flight = false;
     c->set_before = 0;
     memset(&c->pins, 0, sizeof c->pins);
+    memset(&c->panel, 0, sizeof c->panel);
     memset(c->in_hand, 0, sizeof c->in_hand);
     for (size_t i = 0; i < records; i++) {
         struct model before = m;
@@ -616,7 +644,9 @@ struct model cover_log(struct cover *c, const uint8_t *log, size_t records)
         cover_set(c, &before, log + RECORD_BYTES * i, refusal, answer, set);
         cover_step(c, &before, log + RECORD_BYTES * i, refusal, answer, &m);
         cover_pins(c, &before, log + RECORD_BYTES * i, refusal, &m);
+        cover_panel(c, &before, log + RECORD_BYTES * i, refusal, answer, &m);
     }
     hit_if(c, m.selected, COVER_ENDS_OPEN);
+    hit_if(c, m.selected == SELECT_BY_PANEL, COVER_PANEL_ENDS_OPEN);
     return m;
 }

@@ -277,7 +277,94 @@
     X(PIN_LOAD_DISABLED, "LOAD listed, its pin falls, not enabled")     \
     X(PIN_LOAD_RISE, "LOAD listed, its enabled pin rises")              \
     X(PIN_LOAD_REPEAT, "LOAD listed, its enabled pin repeats")          \
-    X(PIN_LOAD_REFUSED, "LOAD listed, a pin record refused inside")
+    X(PIN_LOAD_REFUSED, "LOAD listed, a pin record refused inside") \
+    X(PANEL_READ, "READ replies")                                       \
+    X(PANEL_READ_STATUS, "READ STATUS replies")                         \
+    X(PANEL_RX_STATUS, "RX STATUS replies")                             \
+    X(PANEL_94, "94h replies")                                          \
+    X(PANEL_96, "96h replies")                                          \
+    X(PANEL_44, "44h stores")                                           \
+    X(PANEL_45, "45h stores")                                           \
+    X(PANEL_84, "84h requests")                                         \
+    X(PANEL_READ_OF_CONTROLLER, "READ shows a byte of the controller's")\
+    X(PANEL_READ_HIDDEN, "READ of a filter or mask outside Configuration") \
+    X(PANEL_READ_WRAPS, "READ passes 7Fh")                              \
+    X(PANEL_80, "80h")                                                  \
+    X(PANEL_81, "81h would request")                                    \
+    X(PANEL_82, "82h would request")                                    \
+    X(PANEL_83, "83h would request")                                    \
+    X(PANEL_85, "85h would request")                                    \
+    X(PANEL_86, "86h would request")                                    \
+    X(PANEL_87, "87h would request")                                    \
+    X(PANEL_RTS_TXB2, "85h to 87h would request TXB2")                  \
+    X(PANEL_90, "90h would reply")                                      \
+    X(PANEL_92, "92h would reply")                                      \
+    X(PANEL_90_CLEARS, "90h would clear RX0IF")                         \
+    X(PANEL_92_CLEARS, "92h would clear RX0IF")                         \
+    X(PANEL_40, "40h would store")                                      \
+    X(PANEL_41, "41h would store")                                      \
+    X(PANEL_42, "42h would store")                                      \
+    X(PANEL_43, "43h would store")                                      \
+    X(PANEL_WRITE, "WRITE would store")                                 \
+    X(PANEL_BIT_MODIFY, "BIT MODIFY would store")                       \
+    X(PANEL_RESET, "RESET would change the chip")                       \
+    X(PANEL_UNKNOWN, "unknown code")                                    \
+    X(PANEL_FORBIDDEN_LONG, "forbidden code and 128 bytes or more")     \
+    X(PANEL_READ_PAST, "byte past data byte 7 of RXB1 would reply")     \
+    X(PANEL_READ_ROUND, "RXB1's byte 128 or more would come round")     \
+    X(PANEL_LOAD_PAST, "byte past data byte 7 of TXB2 would store")     \
+    X(PANEL_LOAD_CANCTRL, "the same in CANCTRL")                        \
+    X(PANEL_LOAD_ROUND, "TXB2's byte 128 or more would come round")     \
+    X(PANEL_CLEARS, "RX1IF cleared, read up to data byte 7")            \
+    X(PANEL_CLEARS_PAST, "RX1IF cleared, read past data byte 7")        \
+    X(PANEL_CLEARS_ROUND, "RX1IF cleared after 128 bytes or more")      \
+    X(PANEL_CLEARS_CUT, "RX1IF cleared after the code alone")           \
+    X(PANEL_CLEARS_LATE, "RX1IF cleared that rose inside")              \
+    X(PANEL_CLEARS_NONE, "no RX1IF to clear")                           \
+    X(PANEL_CLEARS_NOT_RX0IF, "RX0IF stays where RX1IF is cleared")     \
+    X(PANEL_RTS_ABAT, "84h under ABAT requests nothing")                \
+    X(PANEL_RTS_CLEARS, "84h clears ABTF, MLOA or TXERR")               \
+    X(PANEL_RTS_KEEPS, "84h over TXREQ keeps MLOA or TXERR")            \
+    X(PANEL_RTS_FLIGHT, "84h in the flight of TXB2")                    \
+    X(PANEL_RTS_MODE_0, "84h requests in Normal")                       \
+    X(PANEL_RTS_MODE_1, "84h requests in Sleep")                        \
+    X(PANEL_RTS_MODE_2, "84h requests in Loopback")                     \
+    X(PANEL_RTS_MODE_3, "84h requests in Listen-Only")                  \
+    X(PANEL_RTS_MODE_4, "84h requests in Configuration")                \
+    X(PANEL_DELAYS, "a mode waits for what 84h requested")              \
+    X(PANEL_SENT, "bus idle sends what 84h requested")                  \
+    X(PANEL_TIE, "what 84h requested wins a tie")                       \
+    X(PANEL_LOAD_TXREQ, "LOAD kept out by TXREQ")                       \
+    X(PANEL_LOAD_FLIGHT, "LOAD kept out by the flight alone")           \
+    X(PANEL_LOAD_FALL, "LOAD that a fall of TX2RTS locks half way")     \
+    X(PANEL_LOOPED, "what the panel loaded comes in at RXB0")           \
+    X(PANEL_REFUSED_XFER, "exchange by the panel, the controller's session") \
+    X(PANEL_REFUSED_HIGH, "select high by the panel, the same")         \
+    X(PANEL_REFUSES_XFER, "exchange by the controller, the panel's session") \
+    X(PANEL_REFUSES_HIGH, "select high by the controller, the same")    \
+    X(PANEL_LOW_OWN, "select low by the panel, its own session")        \
+    X(PANEL_LOW_OTHER, "select low by the panel, the controller's session") \
+    X(PANEL_LOW_BY_OTHER, "select low by the controller, the panel's session") \
+    X(PANEL_XFER_HIGH, "exchange by the panel, select high")            \
+    X(PANEL_HIGH_HIGH, "select high by the panel, select high")         \
+    X(PANEL_XFER_HIGH_AFTER, "exchange by the controller after the panel's session") \
+    X(PANEL_HIGH_HIGH_AFTER, "select high by the controller after the panel's session") \
+    X(PANEL_SPEAKER_2, "refused for speaker 2 alone")                   \
+    X(PANEL_SPEAKER_ABOVE, "refused for a speaker above 2 alone")       \
+    X(PANEL_SPEAKER_BEFORE_1, "speaker above 1, where 0 and 1 have refusal 1") \
+    X(PANEL_SPEAKER_BEFORE_18, "speaker above 1, select is low")        \
+    X(PANEL_BYTE_1, "select by the panel refused for byte 1 alone")     \
+    X(PANEL_SPARE, "record of the panel refused for a spare byte alone")\
+    X(PANEL_SPARE_BEFORE_18, "spare byte, where there is refusal 18 else") \
+    X(PANEL_AFTER_CONTROLLER, "the panel's session behind the controller's") \
+    X(PANEL_BEFORE_CONTROLLER, "the controller's session behind the panel's") \
+    X(PANEL_GOES_ON, "session goes on after a refused record of the other") \
+    X(PANEL_FRAME, "frame stored inside a session")                     \
+    X(PANEL_END, "own frame ends inside a session")                     \
+    X(PANEL_IDLE, "bus idle sends inside a session")                    \
+    X(PANEL_PIN, "a pin requests inside a session")                     \
+    X(PANEL_MODE, "the mode changes inside a session")                  \
+    X(PANEL_ENDS_OPEN, "log ends in an open session")
 
 enum cover_point {
 #define COVER_ENUM(name, text) COVER_##name,
@@ -333,6 +420,18 @@ struct cover_pins {
     bool refused_in_session;
 };
 
+/* The panel's sessions, from record to record. */
+struct cover_panel {
+    struct model obeyed; /* the chip if the controller had spoken in this session */
+    uint8_t code;
+    unsigned exchanges;
+    bool replies, stores, requests_txb2, stores_past, stores_canctrl, changed, locked;
+    bool cut_in;       /* a record of the other was refused */
+    bool requested;    /* TXREQ of TXB2 set by 84h, and not cleared since */
+    bool loaded;       /* bytes of TXB2 stored by the panel last */
+    uint8_t last;      /* who had the last session: 0, or as selected */
+};
+
 /* RESET by address, CANCTRL at 0Fh alone. The bits that a log can make other
  * than RESET does; bits of the counters are not told apart. */
 enum { COVER_ADDRESSES = 128 };
@@ -365,6 +464,7 @@ struct cover {
     unsigned long txrtsctrl[COVER_PIN_STATES][COVER_PIN_STATES]; /* read, by enables and levels */
     unsigned long pin_spare[RECORD_BYTES]; /* pin records refused for this byte alone */
     struct cover_pins pins;
+    struct cover_panel panel;
     unsigned long resets;
     unsigned long reset_bit[COVER_ADDRESSES][8]; /* met other than RESET would make it */
     unsigned long reset_read[COVER_ADDRESSES];   /* such a byte read while still in hand */
@@ -394,6 +494,17 @@ void cover_set(struct cover *c, const struct model *before, const uint8_t *recor
  * (cover_pins.c). */
 void cover_pins(struct cover *c, const struct model *before, const uint8_t *record,
                 uint8_t refusal, const struct model *after);
+
+/* Any record, after cover_step: what the panel did and could not do (cover_panel.c). */
+void cover_panel(struct cover *c, const struct model *before, const uint8_t *record,
+                 uint8_t refusal, uint8_t answer, const struct model *after);
+
+/* The code byte as the chip takes it: one that the panel must not send is as good as
+ * unknown, 0. */
+uint8_t cover_code(const struct model *before, const uint8_t *record);
+
+/* RESET, which is the controller's. */
+bool cover_is_reset(const struct model *before, const uint8_t *record);
 
 /* The present session so far: LOAD TX BUFFER up to data byte 7 at most, its buffer free at
  * select low. */

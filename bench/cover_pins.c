@@ -250,7 +250,7 @@ static void exchanged(struct cover *c, const struct model *before, const uint8_t
         if (memcmp(&before->reg[at], &after->reg[at], D7) != 0)
             c->pins.changed |= bit_of(n);
     }
-    if (before->open == OPEN_CODE && r[1] == SPI_RESET)
+    if (cover_is_reset(before, r))
         reset_met(c, before);
 }
 

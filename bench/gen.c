@@ -1,6 +1,5 @@
 #include "gen.h"
 
-#include <stdbool.h>
 #include <string.h>
 
 #include "registers.h"
@@ -302,12 +301,18 @@ static void make_bad_pin(struct gen *g, uint8_t *r)
     }
 }
 
+static uint8_t some_speaker(struct gen *g)
+{
+    return (uint8_t)(g->alone ? 0 : below(g, SPEAKERS));
+}
+
 static void make_bad(struct gen *g, uint8_t *r)
 {
     switch (below(g, 7)) {
     case 0: /* select in the wrong state */
         r[0] = g->chip.selected ? KIND_SELECT_LOW : chance(g, 128) ? KIND_EXCHANGE
                                                                     : KIND_SELECT_HIGH;
+        r[2] = some_speaker(g);
         break;
     case 1:
         r[0] = (uint8_t)(KINDS + below(g, 256 - KINDS));
@@ -330,6 +335,39 @@ static void make_bad(struct gen *g, uint8_t *r)
         r[0] = (uint8_t)(KIND_FRAME + below(g, 5));
         break;
     }
+}
+
+static uint8_t owner_of(const struct model *m)
+{
+    return m->selected == SELECT_BY_PANEL ? SPEAKER_PANEL : SPEAKER_CONTROLLER;
+}
+
+/* By the one who has not selected, or select low though it is low, or anything else though
+ * it is high. */
+static void make_untimely(struct gen *g, uint8_t *r)
+{
+    bool low = g->chip.selected;
+    r[0] = (uint8_t)(low ? below(g, KIND_FRAME) : KIND_EXCHANGE + below(g, 2));
+    r[2] = low && r[0] != KIND_SELECT_LOW ? !owner_of(&g->chip) : some_speaker(g);
+}
+
+/* A select or exchange that only a wrong chip takes: out of its time, by somebody whom there
+ * is not, or with a byte that has no name. */
+static void make_cut_in(struct gen *g, uint8_t *r)
+{
+    unsigned sort = below(g, 8);
+    if (sort < 4 || chance(g, 60)) {
+        make_untimely(g, r);
+    } else {
+        r[0] = (uint8_t)(g->chip.selected ? KIND_EXCHANGE + below(g, 2) : KIND_SELECT_LOW);
+        r[2] = g->chip.selected ? owner_of(&g->chip) : some_speaker(g);
+    }
+    if (r[0] == KIND_EXCHANGE)
+        r[1] = any_byte(g);
+    if (sort == 4 || sort == 5)
+        r[2] = (uint8_t)(chance(g, 128) ? SPEAKERS : SPEAKERS + below(g, 256 - SPEAKERS));
+    if (sort > 5)
+        r[r[0] != KIND_EXCHANGE && chance(g, 100) ? 1 : 3 + below(g, 13)] |= 1;
 }
 
 /* ---- sessions ---- */
@@ -819,7 +857,141 @@ static void plan_session(struct gen *g)
         planners[below(g, PLANS)](g);
 }
 
+/* ---- sessions of the panel ---- */
+
+/* Bytes behind the code: short, at the limit, past it, and round the addresses. */
+static unsigned panel_bytes(struct gen *g, unsigned limit)
+{
+    switch (below(g, 8)) {
+    case 0:
+        return limit;
+    case 1:
+        return limit + 1;
+    case 2:
+        return limit + 2 + below(g, 5);
+    case 3:
+        return chance(g, 100) ? 126 + below(g, 33) : limit;
+    }
+    return below(g, limit + 1);
+}
+
+static void panel_read_rx(struct gen *g)
+{
+    bool data = chance(g, 128);
+    add(g, data ? 0x96 : 0x94);
+    add_random(g, panel_bytes(g, data ? 8 : 13));
+}
+
+static void panel_load(struct gen *g)
+{
+    bool data = chance(g, 100);
+    uint8_t bytes[4 + DATA_BYTES_MAX];
+    unsigned count = panel_bytes(g, data ? 8 : 13);
+    message_bytes(g, bytes);
+    add(g, data ? 0x45 : 0x44);
+    for (unsigned i = 0; i < count; i++) {
+        unsigned at = data ? i + 5 : i;
+        add(g, at < 4 ? bytes[at] : at == 4 ? some_dlc(g) : at < 13 ? bytes[at - 1] : any_byte(g));
+    }
+    if (!data)
+        g->loaded |= 4;
+}
+
+static void panel_rts(struct gen *g)
+{
+    add(g, 0x84);
+    g->loaded &= (uint8_t)~4u;
+}
+
+/* As the controller would go on with them. */
+static void panel_forbidden(struct gen *g)
+{
+    static const uint8_t codes[] = {0x80, 0x81, 0x82, 0x83, 0x85, 0x86,      0x87,
+                                    0x90, 0x92, 0x90, 0x92, 0x40, 0x41,      0x42,
+                                    0x43, 0x02, 0x02, 0x05, 0x05, SPI_RESET, SPI_RESET};
+    static const uint8_t targets[] = {CANCTRL, TXB0CTRL, TXB1CTRL, TXB2CTRL, CANINTF,
+                                      CANINTE, RXB0CTRL, RXF0SIDH, CNF1,     0x51};
+    uint8_t code = PICK(g, codes);
+    add(g, code);
+    if (code == SPI_WRITE || code == SPI_BIT_MODIFY) {
+        add(g, PICK(g, targets));
+        add_random(g, 1 + below(g, 3));
+    } else if (code < SPI_RTS || code >= SPI_READ_RX || chance(g, 40)) {
+        add_random(g, chance(g, 100) ? 0 : chance(g, 36) ? 126 + below(g, 33) : below(g, 16));
+    }
+}
+
+static bool waits_for_tx(const struct model *m)
+{
+    return m->request != NO_REQUEST || m->flight != NO_FLIGHT;
+}
+
+/* What the panel has of its own; what the chip could use comes more often. */
+static void plan_own_of_panel(struct gen *g)
+{
+    const struct model *m = &g->chip;
+    bool full = m->reg[CANINTF] & RX1IF, asked = m->reg[TXB2CTRL] & TXREQ;
+    bool sends = m->mode == MODE_NORMAL || m->mode == MODE_LOOPBACK;
+    if (full && chance(g, 100))
+        panel_read_rx(g);
+    else if (!asked && m->flight == 2)
+        chance(g, 110) ? panel_load(g) : panel_rts(g);
+    else if (!asked && ((waits_for_tx(m) && chance(g, 120)) || (sends && chance(g, 50))))
+        panel_rts(g);
+    else if (!asked && chance(g, 60))
+        panel_load(g);
+    else
+        switch (below(g, 8)) {
+        case 0:
+            plan_read(g);
+            break;
+        case 1:
+            plan_status(g);
+            break;
+        case 2:
+            panel_read_rx(g);
+            break;
+        case 3:
+            panel_load(g);
+            break;
+        case 4:
+            panel_rts(g);
+            break;
+        case 5:
+            plan_unknown(g);
+            break;
+        default:
+            panel_forbidden(g);
+            break;
+        }
+}
+
+/* Its own, or what the controller would have done: then it is mostly forbidden, and leaves
+ * nothing behind that would be worth a look. */
+static void plan_panel(struct gen *g)
+{
+    uint8_t changed = g->changed, loaded = g->loaded;
+    unsigned looks = g->looks;
+    g->planned = g->sent = 0;
+    if (chance(g, 170)) {
+        plan_own_of_panel(g);
+        g->changed = changed;
+        return;
+    }
+    plan_session(g);
+    g->changed = changed;
+    g->loaded = loaded;
+    g->looks = looks;
+}
+
 /* ---- records ---- */
+
+static void draw_panel(struct gen *g)
+{
+    static const uint8_t panel[] = {0, 0, 0, 40, 110, 150}, cut_in[] = {0, 3, 12};
+    g->mix.panel = PICK(g, panel);
+    g->mix.cut_in = g->mix.panel ? PICK(g, cut_in) : 0;
+}
 
 static void draw_mix(struct gen *g)
 {
@@ -844,20 +1016,28 @@ static void draw_mix(struct gen *g)
         mix->favoured = MODE_NORMAL;
     }
     g->mix_left = 60 + below(g, 500);
+    if (!g->alone)
+        draw_panel(g);
 }
 
-void gen_start(struct gen *g, enum gen_profile profile, uint64_t seed)
+static void start(struct gen *g, enum gen_profile profile, uint64_t seed, bool alone)
 {
-    static const struct gen_mix quiet = {12, 4, 2, 2, 2, 10, MODE_NORMAL, 1, 0};
-    static const struct gen_mix busy = {235, 20, 1, 1, 1, 20, MODE_NORMAL, 1, 0};
+    static const struct gen_mix quiet = {12, 4, 2, 2, 2, 10, MODE_NORMAL, 1, 0, 0, 0};
+    static const struct gen_mix busy = {235, 20, 1, 1, 1, 20, MODE_NORMAL, 1, 0, 0, 0};
     memset(g, 0, sizeof *g);
     g->state = seed;
     g->profile = profile;
+    g->alone = alone;
     model_power_on(&g->chip);
     if (profile == GEN_MIXED)
         draw_mix(g);
     else
         g->mix = profile == GEN_QUIET ? quiet : busy;
+}
+
+void gen_start(struct gen *g, enum gen_profile profile, uint64_t seed)
+{
+    start(g, profile, seed, false);
 }
 
 /* Fewer events where they would change nothing, or only lose frames. */
@@ -888,8 +1068,21 @@ static bool past_buffer_limit(const struct model *m)
     return m->clears != 0 && (m->pointer & 0x0F) == CANCTRL;
 }
 
+/* The panel has asked for TXB2 or loads it, and leaves select low for a while: what comes
+ * of it before select high is the panel's doing, though no record of it is. */
+static bool panel_lingers(const struct gen *g)
+{
+    bool acts = g->plan[0] == 0x84 || g->plan[0] == 0x44 || g->plan[0] == 0x45;
+    return g->chip.selected == SELECT_BY_PANEL && g->sent > 0 && g->sent == g->planned && acts &&
+           g->mix.event_inside >= 60;
+}
+
 static void inside_session(struct gen *g, uint8_t *r)
 {
+    if (panel_lingers(g) && chance(g, 200)) {
+        make_event(g, r);
+        return;
+    }
     if (chance(g, (g->mix.event_inside + event_chance(g, g->mix.event_inside)) / 2) ||
         (past_buffer_limit(&g->chip) && chance(g, 200))) {
         make_event(g, r);
@@ -897,12 +1090,22 @@ static void inside_session(struct gen *g, uint8_t *r)
     }
     if (g->sent == g->planned && chance(g, g->mix.overlong))
         add(g, any_byte(g));
+    r[2] = owner_of(&g->chip);
     if (g->sent == g->planned || chance(g, g->mix.cut)) {
         r[0] = KIND_SELECT_HIGH;
         return;
     }
     r[0] = KIND_EXCHANGE;
     r[1] = g->plan[g->sent++];
+}
+
+/* More often where TXB2 flies and is no longer asked for, unless the controller is wanted
+ * there: its ABAT and the fall of a pin make a corner too. */
+static unsigned panel_chance(const struct gen *g)
+{
+    if (g->chip.flight == 2 && is_taken_back(&g->chip))
+        return g->mix.pins > 0 ? 70 : 230;
+    return g->mix.panel;
 }
 
 static void outside_session(struct gen *g, uint8_t *r)
@@ -912,7 +1115,18 @@ static void outside_session(struct gen *g, uint8_t *r)
         return;
     }
     r[0] = KIND_SELECT_LOW;
-    plan_session(g);
+    if (g->mix.panel > 0 && chance(g, panel_chance(g))) {
+        r[2] = SPEAKER_PANEL;
+        plan_panel(g);
+    } else {
+        plan_session(g);
+    }
+}
+
+/* Before there was a panel, the chip refused a record that named it. */
+static bool names_the_panel(const uint8_t *r)
+{
+    return r[0] <= KIND_SELECT_HIGH && r[2] == SPEAKER_PANEL;
 }
 
 void gen_record(struct gen *g, uint8_t record[RECORD_BYTES])
@@ -923,21 +1137,64 @@ void gen_record(struct gen *g, uint8_t record[RECORD_BYTES])
         draw_mix(g);
     if (chance(g, g->mix.bad))
         make_bad(g, record);
+    else if (g->mix.cut_in > 0 && chance(g, g->mix.cut_in))
+        make_cut_in(g, record);
     else if (g->mix.pins > 0 && chance(g, pin_chance(g)))
         make_any_pin(g, record);
     else if (g->chip.selected)
         inside_session(g, record);
     else
         outside_session(g, record);
-    model_step(&g->chip, record, &refusal, &answer);
+    if (!g->alone || !names_the_panel(record))
+        model_step(&g->chip, record, &refusal, &answer);
+}
+
+static void make_log(enum gen_profile profile, uint64_t seed, bool alone, uint8_t *log,
+                     size_t records)
+{
+    struct gen g;
+    start(&g, profile, seed, alone);
+    for (size_t i = 0; i < records; i++)
+        gen_record(&g, log + RECORD_BYTES * i);
 }
 
 void gen_log(enum gen_profile profile, uint64_t seed, uint8_t *log, size_t records)
 {
-    struct gen g;
-    gen_start(&g, profile, seed);
-    for (size_t i = 0; i < records; i++)
-        gen_record(&g, log + RECORD_BYTES * i);
+    make_log(profile, seed, false, log, records);
+}
+
+void gen_log_alone(enum gen_profile profile, uint64_t seed, uint8_t *log, size_t records)
+{
+    make_log(profile, seed, true, log, records);
+}
+
+/* ---- who speaks ---- */
+
+void gen_hide_speakers(uint8_t *log, size_t records)
+{
+    for (size_t i = 0; i < records; i++) {
+        uint8_t *r = log + RECORD_BYTES * i;
+        if (r[0] > KIND_SELECT_HIGH || r[2] == 0)
+            continue;
+        r[3] |= r[2];
+        r[2] = 0;
+    }
+}
+
+void gen_swap_speakers(uint64_t seed, uint8_t *log, size_t records)
+{
+    struct gen g = {.state = seed};
+    size_t left = below(&g, 40);
+    bool swaps = false;
+    for (size_t i = 0; i < records; i++) {
+        uint8_t *r = log + RECORD_BYTES * i;
+        if (left-- == 0) {
+            swaps = !swaps;
+            left = 1 + below(&g, 40);
+        }
+        if (r[0] <= KIND_SELECT_HIGH && r[2] < SPEAKERS && swaps != chance(&g, 6))
+            r[2] ^= SPEAKER_PANEL;
+    }
 }
 
 /* ---- noise and damage ---- */

@@ -39,10 +39,12 @@ static void check_sizes(void)
     expect("room for a line", 23, LINE);
     expect("bytes of a chip", 152, CHIP);
     expect("records of the longest log", 65535, MCP2515_MOST_RECORDS);
-    expect("version of a chip", 2, MCP2515_CHIP_VERSION);
+    expect("version of a chip", 3, MCP2515_CHIP_VERSION);
     expect("place of the pins", 143, MCP2515_PLACE_PINS);
     expect("place of the open instruction", 146, MCP2515_PLACE_OPEN);
+    expect("place of who selected", 149, MCP2515_PLACE_SPEAKER);
     expect("place of the version", 151, MCP2515_PLACE_VERSION);
+    expect("refusal for who speaks", 18, MCP2515_REFUSED_SPEAKER);
 }
 
 /* Three numbers with a dot between, as pkg-config has to sort them. */
@@ -65,7 +67,7 @@ static void check_chip(void)
     expect("a byte more", -MCP2515_REFUSED_NO_CHIP, mcp2515_hold(chip, CHIP + 1, 0x0F));
     chip[MCP2515_PLACE_VERSION]++;
     expect("another version", -MCP2515_REFUSED_NO_CHIP, mcp2515_hold(chip, CHIP, 0x0F));
-    chip[MCP2515_PLACE_VERSION] = 1;
+    chip[MCP2515_PLACE_VERSION] = MCP2515_CHIP_VERSION - 1;
     expect("the version before", -MCP2515_REFUSED_NO_CHIP, mcp2515_hold(chip, CHIP, 0x0F));
 }
 
@@ -142,6 +144,71 @@ static void check_pins(void)
     }
     one_pin(chip, 3, 0);
     one_pin(chip, 0, 2);
+}
+
+/* One record by who speaks; its answer, or minus its refusal. */
+static int64_t spoken(uint8_t *chip, uint8_t kind, uint8_t byte1, uint8_t speaker)
+{
+    uint8_t record[RECORD] = {kind, byte1, speaker}, answer[ANSWER];
+    expect("a step by who speaks", ANSWER,
+           mcp2515_step(chip, CHIP, record, RECORD, answer, ANSWER));
+    return answer[0] ? -(int64_t)answer[0] : answer[1];
+}
+
+/* Who selected at its place: 0 is the controller, any other byte the panel. */
+static void check_speaker(void)
+{
+    uint8_t chip[CHIP];
+    mcp2515_power_on(chip, CHIP);
+    for (uint8_t speaker = 0; speaker < 2; speaker++) {
+        expect("a speaker above 1", -MCP2515_REFUSED_FIELD, spoken(chip, 0, 0, 2));
+        expect("nobody has selected", -MCP2515_REFUSED_SELECT, spoken(chip, 1, 3, speaker));
+        expect("select low", 0, spoken(chip, 0, 0, speaker));
+        expect("who selected", speaker, chip[MCP2515_PLACE_SPEAKER] != 0);
+        expect("select low by the other", -MCP2515_REFUSED_SELECT, spoken(chip, 0, 0, !speaker));
+        expect("exchange by the other", -MCP2515_REFUSED_SPEAKER, spoken(chip, 1, 3, !speaker));
+        expect("select high by the other", -MCP2515_REFUSED_SPEAKER, spoken(chip, 2, 0, !speaker));
+        expect("READ", 0, spoken(chip, 1, 0x03, speaker));
+        expect("its address", 0, spoken(chip, 1, 0x0F, speaker));
+        if (speaker)
+            chip[MCP2515_PLACE_SPEAKER] = 0x80;
+        expect("its reply", 0x87, spoken(chip, 1, 0, speaker));
+        expect("select high", 0, spoken(chip, 2, 0, speaker));
+    }
+}
+
+/* Every address holds the same, and the open instruction is the same at its places. */
+static void expect_alike(const uint8_t *before, const uint8_t *chip)
+{
+    uint8_t number = before[MCP2515_PLACE_OPEN];
+    for (unsigned a = 0; a < 128; a++)
+        expect("an address after an impossible instruction",
+               mcp2515_hold(before, CHIP, (uint8_t)a), mcp2515_hold(chip, CHIP, (uint8_t)a));
+    expect("an impossible instruction stays open", number, chip[MCP2515_PLACE_OPEN]);
+    if (number != 4 && number != 6)
+        expect("its address", before[MCP2515_PLACE_OPEN + 1], chip[MCP2515_PLACE_OPEN + 1]);
+    if (number == 8)
+        expect("its mask", before[MCP2515_PLACE_OPEN + 2], chip[MCP2515_PLACE_OPEN + 2]);
+}
+
+/* An instruction that the panel cannot have opened stays as it is. */
+static void check_impossible(void)
+{
+    static const uint8_t numbers[] = {4, 5, 6, 7, 8, 9, 10};
+    for (unsigned i = 0; i < sizeof numbers; i++) {
+        uint8_t chip[CHIP], before[CHIP];
+        mcp2515_power_on(chip, CHIP);
+        chip[MCP2515_PLACE_OPEN] = numbers[i];
+        chip[MCP2515_PLACE_OPEN + 1] = 0x0F; /* CANCTRL */
+        chip[MCP2515_PLACE_OPEN + 2] = 0xFF;
+        chip[MCP2515_PLACE_SPEAKER] = 1;
+        chip[130] = 0x03; /* RX0IF and RX1IF */
+        memcpy(before, chip, CHIP);
+        expect("an impossible instruction of the panel", 0, spoken(chip, 1, 0x00, 1));
+        expect_alike(before, chip);
+        expect("select high after it", 0, spoken(chip, 2, 0, 1));
+        expect("and its flags", numbers[i] == 10 ? 0x01 : 0x03, mcp2515_hold(chip, CHIP, 0x2C));
+    }
 }
 
 static void check_record_limits(void)
@@ -282,6 +349,8 @@ int main(void)
     check_chip();
     check_places();
     check_pins();
+    check_speaker();
+    check_impossible();
     check_record_limits();
     check_set();
     check_log_limits();

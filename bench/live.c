@@ -1,8 +1,8 @@
 /*
  * The live calls against the second model: random logs record by record, with
  * the set and without, and INT after each, by run_from in pieces, as text by
- * render; random bytes as a chip, as filters and masks, and around the request
- * pins; every refusal of every call. The first difference ends the run with
+ * render; random bytes as a chip, as filters and masks, around the request pins
+ * and around the panel; every refusal of every call. The first difference ends the run with
  * status 1. What was met is counted, and none of it may be missing.
  *
  *   live [records [seed]]
@@ -17,6 +17,7 @@
 #include "chip_bytes.h"
 #include "gen.h"
 #include "match.h"
+#include "panel_met.h"
 #include "pins_met.h"
 #include "registers.h"
 #include "sets_met.h"
@@ -65,7 +66,7 @@ enum line {
 enum { DECIDES_SET, DECIDES_ANSWER, DECIDES };
 
 static unsigned long long results[CALLS][REFUSALS];       /* 0: accepted */
-static unsigned long long refusals[2][REFUSED_STATE + 1]; /* of records; [1]: on random chips */
+static unsigned long long refusals[2][REFUSALS];          /* of records; [1]: on random chips */
 static unsigned long long resets[2];                      /* [1]: on random chips */
 static unsigned long long int_lines[2], modes[MODES], opens[OPEN_SPENT + 1];
 static unsigned long long waits, flights, bus_offs, hidden, addresses, wrong_versions,
@@ -75,6 +76,12 @@ static unsigned long long pins_met[2][PINS_MET]; /* [1]: of random chips */
 /* Of random chips: a pin record lets a mode request go, or its TXREQ holds one that was free;
  * it requests by a fall from a level that is neither 0 nor 1. */
 static unsigned long long carried_out, held_back, other_levels;
+/* Of random chips: exchanges by the panel with an instruction that it cannot have opened, by
+ * the number of its place; select highs that clear nothing or something then. */
+enum { OPEN_NUMBERS = 16 };
+static unsigned long long panel_met[2][PANELS_MET]; /* [1]: of random chips */
+static unsigned long long impossible[OPEN_NUMBERS], impossible_high[OPEN_NUMBERS], other_speakers,
+    of_nobody;
 static unsigned long long lines[LINES];
 static unsigned long long junk_decides[DECIDES][3]; /* SIDL bits 4, 3, 2 of mask and filter */
 static unsigned long long srr_decides[DECIDES];     /* SIDL bit 4 of the mask, not of the filter */
@@ -161,6 +168,43 @@ static void demand_pins(void)
     demand("random chip: pin requests, its level was above 1", other_levels);
 }
 
+/* Instructions that the panel cannot have opened, at any address or outside its buffers. */
+static bool is_impossible(unsigned number, uint8_t address)
+{
+    address &= 0x7F;
+    return number == 4 || (number >= 6 && number <= 9) ||
+           (number == 5 && (address < 0x51 || address > 0x5D)) ||
+           (number == 10 && (address < 0x71 || address > 0x7D));
+}
+
+static void demand_panel(void)
+{
+    char text[96];
+    for (unsigned i = 0; i < 2 * PANELS_MET; i++) {
+        unsigned random = i / PANELS_MET, sort = i % PANELS_MET;
+        snprintf(text, sizeof text, "%s%s", random ? "random chip: " : "", panel_met_name[sort]);
+        demand(text, panel_met[random][sort]);
+    }
+    for (unsigned i = 4; i <= 10; i++) {
+        snprintf(text, sizeof text, "random chip: panel, impossible open instruction %u", i);
+        demand(text, impossible[i]);
+    }
+    demand("random chip: select high after 9, RX0IF stays", impossible_high[9]);
+    demand("random chip: select high after 10 elsewhere clears RX1IF", impossible_high[10]);
+    demand("random chip: who selected is a byte above 1", other_speakers);
+    demand("random chip: who selected is said, select is high", of_nobody);
+}
+
+static void demand_refusals(const char *what, const unsigned long long *counts)
+{
+    static const uint8_t of_records[] = {0, 1, 2, 3, 4, 5, REFUSED_SPEAKER};
+    char text[64];
+    for (size_t i = 0; i < sizeof of_records; i++) {
+        snprintf(text, sizeof text, "%s %u", what, of_records[i]);
+        demand(text, counts[of_records[i]]);
+    }
+}
+
 static void demand_junk(void)
 {
     static const char *const decided[DECIDES] = {"the set", "the answer"};
@@ -201,8 +245,9 @@ static void demand_all(void)
     demand_results();
     demand_sets();
     demand_pins();
-    demand_numbers("record of a reached chip, refusal", refusals[0], REFUSED_STATE + 1);
-    demand_numbers("record of a random chip, refusal", refusals[1], REFUSED_STATE + 1);
+    demand_panel();
+    demand_refusals("record of a reached chip, refusal", refusals[0]);
+    demand_refusals("record of a random chip, refusal", refusals[1]);
     demand("RESET of a reached chip", resets[0]);
     demand("RESET of a random chip", resets[1]);
     demand_numbers("INT after a record, low is 1:", int_lines, 2);
@@ -354,13 +399,31 @@ static void count_pins(const struct pair *p, const struct model *met, const uint
     other_levels += requests && before[MCP2515_PLACE_PINS + record[1]] > 1;
 }
 
+/* What a random chip has that no log reaches, by its bytes before. */
+static void count_impossible(const struct model *met, const uint8_t *before,
+                             const uint8_t *record, uint8_t refusal)
+{
+    uint8_t open = before[MCP2515_PLACE_OPEN], who = before[MCP2515_PLACE_SPEAKER];
+    if (record[0] > KIND_SELECT_HIGH || refusal != REFUSED_NOT)
+        return;
+    of_nobody += open == 0 && who != 0;
+    other_speakers += open != 0 && who > 1;
+    if (met->selected != SELECT_BY_PANEL || !is_impossible(open, before[MCP2515_PLACE_OPEN + 1]))
+        return;
+    if (record[0] == KIND_EXCHANGE)
+        impossible[open]++;
+    else
+        impossible_high[open] += (met->reg[CANINTF] & (open == 9 ? RX0IF : RX1IF)) != 0;
+}
+
 /* By both calls from the same chip: they leave the same bytes. The set is told a third time
  * by match.c. */
 static void step_pair(struct pair *p, const uint8_t *record)
 {
     uint8_t before[CHIP], after[CHIP], want[OUTCOME_BYTES];
     struct model met = p->m;
-    bool resets_it = met.open == OPEN_CODE && record[0] == KIND_EXCHANGE && record[1] == SPI_RESET;
+    bool resets_it = met.open == OPEN_CODE && met.selected == SELECT_BY_CONTROLLER &&
+                     record[0] == KIND_EXCHANGE && record[1] == SPI_RESET;
     memcpy(before, p->chip, CHIP);
     count_state(&met);
     model_step_set(&p->m, record, &want[0], &want[1], &want[2]);
@@ -377,6 +440,9 @@ static void step_pair(struct pair *p, const uint8_t *record)
     check_int(p);
     count_set(sets_met[p->random], &p->m, met.mode == MODE_LOOPBACK, record, want);
     count_pins(p, &met, before, record, want[0]);
+    count_panel(panel_met[p->random], &met, record, want[0], want[1], &p->m);
+    if (p->random)
+        count_impossible(&met, before, record, want[0]);
     refusals[p->random][want[0]]++;
     resets[p->random] += resets_it && want[0] == REFUSED_NOT;
 }
@@ -396,6 +462,8 @@ static size_t some_log(uint8_t *log, size_t records)
                 seed_of_log, log, records);
     if (pick >= 84)
         gen_damage(seed_of_log, log, records);
+    if (pick % 8 == 1)
+        gen_swap_speakers(seed_of_log, log, records);
     return records;
 }
 
@@ -587,6 +655,8 @@ static void random_chip(struct pair *p, const uint8_t *log, size_t records)
             p->chip[MCP2515_PLACE_PINS + n] = (uint8_t)(below(2) ? below(256) : 0);
     if (below(2))
         p->chip[TXRTSCTRL] = (uint8_t)below(256);
+    if (below(2))
+        p->chip[MCP2515_PLACE_SPEAKER] = (uint8_t)(below(2) ? below(2) : below(256));
     p->chip[MCP2515_PLACE_VERSION] = MCP2515_CHIP_VERSION;
     p->random = true;
     chip_decode(p->chip, &p->m);
@@ -811,6 +881,63 @@ static void pins_of_any_chip(void)
     }
 }
 
+/* ---- the panel on any chip ---- */
+
+/* Any open instruction by whomever, mostly near the ends of the panel's buffers. */
+static void any_session(struct pair *p)
+{
+    enum { CANINTF_AT = 130, TXB2CTRL_AT = 134, MODE_AT = 140 };
+    static const uint8_t edges[] = {0x50, 0x51, 0x52, 0x5C, 0x5D, 0x5E, 0x5F, 0x60,
+                                    0x70, 0x71, 0x72, 0x7C, 0x7D, 0x7E, 0x7F, 0x00};
+    random_bytes(p->chip, SPARE_FROM);
+    p->chip[CANINTF_AT] |= (uint8_t)below(4);
+    p->chip[TXB2CTRL_AT] &= below(2) ? 0xFF : (uint8_t)~TXREQ;
+    p->chip[MODE_AT] = (uint8_t)below(MODES);
+    p->chip[MCP2515_PLACE_FLIGHT] = (uint8_t)(below(2) ? NO_FLIGHT : below(NO_FLIGHT));
+    p->chip[MCP2515_PLACE_MODE_REQUESTED] = (uint8_t)below(MODES + 1);
+    p->chip[MCP2515_PLACE_OPEN] = (uint8_t)below(OPEN_NUMBERS);
+    if (below(4))
+        p->chip[MCP2515_PLACE_OPEN + 1] = edges[below(sizeof edges)] | (below(4) ? 0 : 0x80);
+    p->chip[MCP2515_PLACE_SPEAKER] = (uint8_t)(below(3) ? below(2) : below(256));
+    chip_decode(p->chip, &p->m);
+}
+
+/* A few bytes, then select high, mostly by the one whose session it is. */
+static void speak(struct pair *p, unsigned bytes)
+{
+    static const uint8_t codes[] = {0x03, 0xA0, 0xB0, 0x94, 0x96, 0x44, 0x45, 0x84,
+                                    0x02, 0x05, 0xC0, 0x90, 0x92, 0x40, 0x43, 0x80,
+                                    0x81, 0x85, 0x87, 0x46, 0x00, 0xFF};
+    for (unsigned i = 0; i <= bytes; i++) {
+        uint8_t record[RECORD_BYTES] = {i < bytes ? KIND_EXCHANGE : KIND_SELECT_HIGH};
+        uint8_t owner = p->m.selected == SELECT_BY_PANEL;
+        record[1] = (uint8_t)(i == bytes ? 0 : below(2) ? codes[below(sizeof codes)] : below(256));
+        record[2] = (uint8_t)(below(8) ? owner : !owner);
+        if (below(16) == 0)
+            record[0] = (uint8_t)below(KINDS);
+        if (below(16) == 0)
+            record[2] = (uint8_t)below(256);
+        if (p->m.selected == SELECT_HIGH && below(2)) {
+            record[0] = KIND_SELECT_LOW;
+            record[1] = 0;
+        }
+        step_pair(p, record);
+    }
+}
+
+static void panel_on_any_chip(void)
+{
+    struct pair p;
+    start_pair(&p);
+    p.random = true;
+    for (unsigned i = 0; i < 20; i++) {
+        any_session(&p);
+        speak(&p, below(6));
+        if (i % 5 == 0)
+            check_addresses(&p);
+    }
+}
+
 /* ---- two threads at once ---- */
 
 struct worker {
@@ -876,7 +1003,7 @@ static void check_threads(uint8_t *log)
 static unsigned long long steps_done(void)
 {
     unsigned long long sum = 0;
-    for (unsigned i = 0; i <= REFUSED_STATE; i++)
+    for (unsigned i = 0; i < REFUSALS; i++)
         sum += refusals[0][i] + refusals[1][i];
     return sum;
 }
@@ -903,6 +1030,7 @@ int main(int argc, char **argv)
         for (unsigned i = 0; i < 3; i++)
             junk_in_filters();
         pins_of_any_chip();
+        panel_on_any_chip();
     }
     check_threads(log);
     demand_all();

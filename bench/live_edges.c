@@ -10,7 +10,7 @@
 #define COUNT(list) (sizeof(list) / sizeof *(list))
 
 static const size_t chip_lengths[] = {0, 1, 151, 152, 153, 304};
-static const uint8_t versions[] = {0, 1, 2, 3, 130, 255}; /* 1 had no request pins */
+static const uint8_t versions[] = {0, 1, 2, 3, 4, 131, 255}; /* 2 had no panel, 1 no pins */
 
 /* A power-on chip with this version and this length, cut or with a tail. */
 static uint8_t *lend_chip(size_t length, uint8_t version)
@@ -230,26 +230,28 @@ static void edge_part_refusal(void)
     live_result(CALL_PART_REFUSAL, 8, mcp2515_part_refusal(0, 65536 * 16));
 }
 
-/* A chip as version 1 saved it after power-on: no levels, and the select line where the
- * first of them is now. Read as it is, its pins would be low. */
-static uint8_t *lend_older_chip(void)
+/* A chip as an older version saved it after power-on. Version 1 has no levels, and the
+ * select line where the first of them is now: read as it is, its pins would be low. */
+static uint8_t *lend_older_chip(uint8_t version)
 {
-    enum { CANCTRL_AT = 128, MODE_AT = 140, OLDER_VERSION = 1 };
+    enum { CANCTRL_AT = 128, MODE_AT = 140 };
     uint8_t *chip = fence_lend(&chip_fence, MCP2515_CHIP_SIZE);
     memset(chip, 0, MCP2515_CHIP_SIZE);
     chip[CANCTRL_AT] = 0x87;
     chip[MODE_AT] = MODE_CONFIGURATION;
     chip[MCP2515_PLACE_FLIGHT] = NO_FLIGHT;
     chip[MCP2515_PLACE_MODE_REQUESTED] = NO_REQUEST;
-    chip[MCP2515_PLACE_VERSION] = OLDER_VERSION;
+    if (version > 1)
+        memset(&chip[MCP2515_PLACE_PINS], 1, REQUEST_PINS);
+    chip[MCP2515_PLACE_VERSION] = version;
     return chip;
 }
 
 /* Refused by every call, and left as it is; with the version of today the bytes are a chip. */
-static void edge_older_chip(void)
+static void edge_older_chip(uint8_t version)
 {
     enum { CHIP = MCP2515_CHIP_SIZE, NO_CHIP = -MCP2515_REFUSED_NO_CHIP };
-    uint8_t *chip = lend_older_chip(), *record = fence_lend(&in_fence, MCP2515_RECORD_SIZE);
+    uint8_t *chip = lend_older_chip(version), *record = fence_lend(&in_fence, MCP2515_RECORD_SIZE);
     uint8_t *out = fence_lend(&out_fence, 2 * MCP2515_LINE_SIZE);
     struct edge e = watch(chip, CHIP, MCP2515_RECORD_SIZE, out, 2 * MCP2515_LINE_SIZE);
     memset(record, 0, MCP2515_RECORD_SIZE);
@@ -267,7 +269,7 @@ static void edge_older_chip(void)
                                2 * MCP2515_LINE_SIZE));
     check_untouched(&e, -1, 0);
     chip[MCP2515_PLACE_VERSION] = MCP2515_CHIP_VERSION;
-    live_result(CALL_HOLD, 0x00, mcp2515_hold(chip, CHIP, 0x0D));
+    live_result(CALL_HOLD, version > 1 ? 0x38 : 0x00, mcp2515_hold(chip, CHIP, 0x0D));
 }
 
 /* NULL goes with length 0. */
@@ -305,6 +307,7 @@ void check_edges(void)
             edge_render(chip_lengths[i], versions[j]);
         }
     edge_part_refusal();
-    edge_older_chip();
+    for (uint8_t version = 1; version < MCP2515_CHIP_VERSION; version++)
+        edge_older_chip(version);
     edge_null();
 }

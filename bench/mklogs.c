@@ -29,9 +29,12 @@ static void write_file(const char *name, const uint8_t *bytes, size_t length)
     printf("%s: %zu bytes\n", path, length);
 }
 
-/* A RESET session, after closing whatever is open. */
+/* A RESET session, after closing whatever is open, by whomever. */
 static void start_again(struct script *s)
 {
+    s->speaker = SPEAKER_PANEL;
+    sc_high(s);
+    s->speaker = SPEAKER_CONTROLLER;
     sc_high(s);
     sc_reset(s);
 }
@@ -136,18 +139,24 @@ int main(int argc, char **argv)
 
     write_five();
     write_sets();
-    size_t at_pins = case_count() - pins_cases.count; /* in one log they would be too long */
+    size_t at_panel = case_count() - panel_cases.count; /* in one log they would be too long */
+    size_t at_pins = at_panel - pins_cases.count;
     size_t at_set = at_pins - set_cases.count;
     size_t at_match = at_set - match_cases.count;
     write_cases("marked.log", 0, marked_cases.count, seed, 1000);
     write_cases("cases.log", 0, at_match, seed + 1, 2000);
     write_cases("match.log", at_match, at_set, seed + 4, 2000);
     write_cases("set_cases.log", at_set, at_pins, seed + 5, 2000);
-    write_cases("pins.log", at_pins, case_count(), seed + 6, 2000);
+    write_cases("pins.log", at_pins, at_panel, seed + 6, 2000);
+    write_cases("panel.log", at_panel, case_count(), seed + 7, 2000);
     gen_log(GEN_MIXED, seed + 2, log, MOST + 2);
     write_lengths(log);
     gen_noise(seed + 3, log, BYTES);
     write_file("noise.log", log, 20000 * RECORD_BYTES + 9);
+    gen_swap_speakers(seed + 8, log, 20000);
+    write_file("panel_noise.log", log, 20000 * RECORD_BYTES + 9);
+    gen_log_alone(GEN_MIXED, seed + 9, log, 20000);
+    write_file("alone.log", log, 20000 * RECORD_BYTES);
     free(log);
     return 0;
 }

@@ -403,7 +403,7 @@ static void spi_reset(struct model *m)
     for (unsigned a = 0; a < sizeof m->reg; a++)
         if (outlives_reset(a))
             m->reg[a] = met.reg[a];
-    m->selected = 1;
+    m->selected = met.selected;
     spent(m);
 }
 
@@ -500,10 +500,68 @@ static uint8_t exchange(struct model *m, uint8_t sent)
     return reply;
 }
 
+static bool is_panels(const struct model *m)
+{
+    return m->selected == SELECT_BY_PANEL;
+}
+
+/* The first bytes that do something when the panel sends them. */
+static bool panel_may_start(uint8_t code)
+{
+    switch (code) {
+    case SPI_READ:
+    case SPI_READ_STATUS:
+    case SPI_RX_STATUS:
+    case 0x94: case 0x96: /* READ RX BUFFER of RXB1 */
+    case 0x44: case 0x45: /* LOAD TX BUFFER of TXB2 */
+    case 0x84:            /* RTS of TXB2 */
+        return true;
+    }
+    return false;
+}
+
+/* The message bytes of a buffer, given by its control register. */
+static bool is_message_byte(uint8_t address, uint8_t ctrl)
+{
+    return address >= ctrl + SIDH && address <= ctrl + D7;
+}
+
+/* What the panel cannot have opened, and its READ RX BUFFER and LOAD behind data byte 7,
+ * from where they do not go on: their address must not come round. */
+static bool panel_is_barred(const struct model *m)
+{
+    switch (m->open) {
+    case OPEN_READ:
+        return m->clears != 0 &&
+               !(m->clears == RX1IF && is_message_byte(m->pointer, RXB1CTRL));
+    case OPEN_WRITE:
+        return !is_message_byte(m->pointer, TXB2CTRL);
+    case OPEN_WRITE_ADDRESS:
+    case OPEN_MODIFY_ADDRESS:
+    case OPEN_MODIFY_MASK:
+    case OPEN_MODIFY_DATA:
+        return true;
+    }
+    return false;
+}
+
+static uint8_t panel_exchange(struct model *m, uint8_t sent)
+{
+    if (panel_is_barred(m))
+        return 0;
+    if (m->open == OPEN_CODE && !panel_may_start(sent)) {
+        spent(m);
+        return 0;
+    }
+    return exchange(m, sent);
+}
+
+/* RX0IF is out of the panel's reach on any chip. */
 static void select_high(struct model *m)
 {
-    m->reg[CANINTF] &= (uint8_t)~m->clears;
-    m->selected = 0;
+    uint8_t clears = is_panels(m) ? m->clears & RX1IF : m->clears;
+    m->reg[CANINTF] &= (uint8_t)~clears;
+    m->selected = SELECT_HIGH;
     m->open = OPEN_NONE;
     m->pointer = 0;
     m->mask = 0;
@@ -771,11 +829,12 @@ static bool fields_are_sound(const uint8_t *r)
     switch (r[0]) {
     case KIND_SELECT_LOW:
     case KIND_SELECT_HIGH:
+        return r[1] == 0 && r[2] < SPEAKERS && rest_is_zero(r, 3);
+    case KIND_EXCHANGE:
+        return r[2] < SPEAKERS && rest_is_zero(r, 3);
     case KIND_BUS_IDLE:
     case KIND_RECOVERY:
         return rest_is_zero(r, 1);
-    case KIND_EXCHANGE:
-        return rest_is_zero(r, 2);
     case KIND_FRAME:
         return frame_is_sound(r);
     case KIND_FRAME_ENDS:
@@ -788,6 +847,12 @@ static bool fields_are_sound(const uint8_t *r)
     return false;
 }
 
+/* What a select or exchange would make of the select line, or finds it to be. */
+static uint8_t select_by(const uint8_t *r)
+{
+    return r[2] == SPEAKER_PANEL ? SELECT_BY_PANEL : SELECT_BY_CONTROLLER;
+}
+
 static uint8_t refuse(const struct model *m, const uint8_t *r)
 {
     bool in_flight = m->flight != NO_FLIGHT;
@@ -795,10 +860,12 @@ static uint8_t refuse(const struct model *m, const uint8_t *r)
         return REFUSED_FIELD;
     switch (r[0]) {
     case KIND_SELECT_LOW:
-        return m->selected ? REFUSED_SELECT : REFUSED_NOT;
+        return m->selected == SELECT_HIGH ? REFUSED_NOT : REFUSED_SELECT;
     case KIND_EXCHANGE:
     case KIND_SELECT_HIGH:
-        return m->selected ? REFUSED_NOT : REFUSED_SELECT;
+        if (m->selected == SELECT_HIGH)
+            return REFUSED_SELECT;
+        return m->selected == select_by(r) ? REFUSED_NOT : REFUSED_SPEAKER;
     case KIND_FRAME:
     case KIND_BUS_IDLE:
     case KIND_RECEIVE_ERROR:
@@ -823,11 +890,11 @@ void model_step_set(struct model *m, const uint8_t record[RECORD_BYTES], uint8_t
         return;
     switch (record[0]) {
     case KIND_SELECT_LOW:
-        m->selected = 1;
+        m->selected = select_by(record);
         m->open = OPEN_CODE;
         break;
     case KIND_EXCHANGE:
-        *answer = exchange(m, record[1]);
+        *answer = is_panels(m) ? panel_exchange(m, record[1]) : exchange(m, record[1]);
         break;
     case KIND_SELECT_HIGH:
         select_high(m);

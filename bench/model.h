@@ -26,6 +26,9 @@ enum {
     KINDS
 };
 
+/* Byte 2 of a select or exchange: who speaks. */
+enum { SPEAKER_CONTROLLER, SPEAKER_PANEL, SPEAKERS };
+
 /* Byte 1 of a frame record. */
 enum { FRAME_EXTENDED = 1, FRAME_REMOTE = 2 };
 
@@ -50,7 +53,8 @@ enum {
     REFUSED_STATE = 5,
     REFUSED_RAGGED = 6,
     REFUSED_SHORT_OUTPUT = 7,
-    REFUSED_TOO_LONG = 8
+    REFUSED_TOO_LONG = 8,
+    REFUSED_SPEAKER = 18
 };
 
 /* CANSTAT bits 7-5, as a number. */
@@ -65,11 +69,15 @@ enum {
 
 enum { NO_FLIGHT = 3, NO_REQUEST = 7 };
 
+/* The select line: high, and then it is nobody's, or low by one of the two. */
+enum { SELECT_HIGH, SELECT_BY_CONTROLLER, SELECT_BY_PANEL };
+
 /* TEC from which the chip is bus-off, and the values where the sums stop. */
 enum { TEC_BUS_OFF = 256, TEC_STOP = 263, REC_STOP = 255 };
 
 /* What the next exchange means. LOAD TX BUFFER goes on as WRITE, READ RX
- * BUFFER as READ; SPENT takes further bytes without effect. */
+ * BUFFER as READ; SPENT takes further bytes without effect. The panel's LOAD and
+ * READ RX BUFFER stay at the address behind data byte 7. */
 enum open_instruction {
     OPEN_NONE,
     OPEN_CODE,
@@ -93,7 +101,7 @@ struct model {
     uint8_t mode;
     uint8_t request; /* mode asked for and not yet entered, or NO_REQUEST */
     uint8_t flight;  /* TX buffer on the bus, or NO_FLIGHT */
-    uint8_t selected;
+    uint8_t selected; /* SELECT_HIGH, or by whom it is low */
     uint8_t open;    /* enum open_instruction */
     uint8_t pointer; /* address of the next byte of READ, WRITE or BIT MODIFY */
     uint8_t mask;    /* BIT MODIFY's mask, once given */

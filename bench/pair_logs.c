@@ -12,9 +12,9 @@
 const char *const pair_sort_name[PAIR_SORTS] = {
     "the same bytes twice", "a log and its own end", "equal copies",
     "one byte changed",     "one byte, no answer",   "one byte of a filter",
-    "one request pin",      "records inserted",      "records removed",
-    "one cut short",        "unrelated",             "alike, then parted",
-    "damaged here and there"};
+    "one request pin",      "one speaker",           "the speaker of one session",
+    "records inserted",     "records removed",       "one cut short",
+    "unrelated",            "alike, then parted",    "damaged here and there"};
 
 static unsigned below(uint64_t *dice, size_t n)
 {
@@ -117,6 +117,18 @@ static bool is_pin(const struct model *m, const uint8_t *record)
     return record[0] == KIND_REQUEST_PIN;
 }
 
+static bool is_spoken(const struct model *m, const uint8_t *record)
+{
+    (void)m;
+    return record[0] <= KIND_SELECT_HIGH;
+}
+
+static bool is_select_low(const struct model *m, const uint8_t *record)
+{
+    (void)m;
+    return record[0] == KIND_SELECT_LOW;
+}
+
 /* The last such record that is accepted up to a place, or else the first after it; the
  * number of records if there is none. */
 static size_t find_record(const uint8_t *log, size_t records, uint64_t *dice,
@@ -155,6 +167,27 @@ static size_t change_pin(const uint8_t *first, uint8_t *second, size_t records, 
         record[2] ^= 1;
     else
         record[1] = (uint8_t)((record[1] + 1 + below(dice, 2)) % REQUEST_PINS);
+    return records;
+}
+
+static size_t change_speaker(const uint8_t *first, uint8_t *second, size_t records, uint64_t *dice)
+{
+    size_t found = find_record(first, records, dice, is_spoken);
+    if (found < records)
+        second[RECORD_BYTES * found + 2] ^= SPEAKER_PANEL;
+    return records;
+}
+
+/* Up to its select high: what the one may do, the other may not. */
+static size_t change_session(const uint8_t *first, uint8_t *second, size_t records, uint64_t *dice)
+{
+    for (size_t i = find_record(first, records, dice, is_select_low); i < records; i++) {
+        uint8_t *record = second + RECORD_BYTES * i;
+        if (record[0] <= KIND_SELECT_HIGH && record[2] < SPEAKERS)
+            record[2] ^= SPEAKER_PANEL;
+        if (record[0] == KIND_SELECT_HIGH)
+            break;
+    }
     return records;
 }
 
@@ -213,6 +246,7 @@ static change_copy *const changes[PAIR_SORTS] = {
     [PAIR_EQUAL] = keep,        [PAIR_ONE_BYTE] = change_byte, [PAIR_SILENT] = change_silent,
     [PAIR_PIN] = change_pin,    [PAIR_INSERTED] = insert,      [PAIR_REMOVED] = drop,
     [PAIR_CUT] = cut,           [PAIR_UNRELATED] = replace,    [PAIR_DAMAGED] = damage,
+    [PAIR_SPEAKER] = change_speaker, [PAIR_SESSION] = change_session,
 };
 
 /* ---- pairs ---- */

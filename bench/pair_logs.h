@@ -16,6 +16,8 @@ enum pair_sort {
     PAIR_SILENT,   /* one byte that no answer shows */
     PAIR_FILTER,   /* one byte that is written to a filter or mask of RXB1 */
     PAIR_PIN,      /* level or number of one request pin */
+    PAIR_SPEAKER,  /* who speaks in one select or exchange */
+    PAIR_SESSION,  /* who speaks in one session, both selects and all exchanges */
     PAIR_INSERTED, /* a few records more in one */
     PAIR_REMOVED,
     PAIR_CUT, /* one is the start of the other, or has a byte changed there */

@@ -81,6 +81,9 @@ static unsigned long long sets_heard[2], sets_in_loopback[2], short_by_set_alone
 /* Entries of two accepted pin records; pairs where one of these is all that the logs differ in,
  * and pairs of these where later records answer otherwise. */
 static unsigned long long pin_entries, pins_apart, pins_tell;
+/* Entries of two speakers, both accepted; of refusal 18 in one log alone; pairs of the two sorts
+ * where later records answer otherwise. */
+static unsigned long long speaker_entries, refused_speakers, speakers_tell[2];
 
 static void demand(const char *what, unsigned long long count, unsigned least)
 {
@@ -143,6 +146,10 @@ static void demand_entries(void)
     demand("entry: two different pin records, both accepted", pin_entries, 100);
     demand("logs that differ in one pin record", pins_apart, 100);
     demand("the same, and later answers differ", pins_tell, 100);
+    demand("entry: two speakers, both accepted", speaker_entries, 1000);
+    demand("entry: refusal 18 in one log", refused_speakers, 1000);
+    demand("logs apart by one speaker, and later answers differ", speakers_tell[0], 100);
+    demand("logs apart by a session's speaker, and answers differ", speakers_tell[1], 100);
     demand("entry: number above 255", above_255, 1000);
     demand("entry: number above 32,767", above_32767, 1000);
     demand("no entry", equal_pairs, 100);
@@ -228,6 +235,15 @@ static bool is_pin_entry(const struct log_pair *p, const uint8_t *entry)
            differences_of(p, entry) == DIFFERS_RECORD && entry[4] == REFUSED_NOT;
 }
 
+static void count_speakers(const struct log_pair *p, const uint8_t *entry)
+{
+    size_t at = RECORD_BYTES * (number_of(entry) - 1);
+    const uint8_t *first = p->first.bytes + at, *second = p->second.bytes + at;
+    bool spoken = first[0] <= KIND_SELECT_HIGH && first[0] == second[0] && first[2] != second[2];
+    speaker_entries += spoken && entry[4] == REFUSED_NOT && entry[6] == REFUSED_NOT;
+    refused_speakers += (entry[4] == REFUSED_SPEAKER) != (entry[6] == REFUSED_SPEAKER);
+}
+
 /* The records themselves differ at the first entry, two pins, and nowhere else. */
 static void count_pins(const struct log_pair *p, size_t count)
 {
@@ -254,6 +270,7 @@ static void count_entry(const struct log_pair *p, const uint8_t *entry)
         met[1] += differs == DIFFERS_SET;
     }
     pin_entries += is_pin_entry(p, entry);
+    count_speakers(p, entry);
     above_255 += number > 255;
     above_32767 += number > 32767;
 }
@@ -285,9 +302,22 @@ static void count_places(size_t records, size_t first_entry)
     }
 }
 
-static void count_accepted(const struct log_pair *p, size_t count, struct log_part leftover)
+static void count_answers(const struct log_pair *p, size_t count, enum pair_sort sort)
+{
+    size_t tell = 0;
+    if (sort != PAIR_SPEAKER && sort != PAIR_SESSION)
+        return;
+    for (size_t i = 0; i < count; i++)
+        tell += (differences_of(p, model_entries + ENTRY_BYTES * i) &
+                 (DIFFERS_REFUSAL | DIFFERS_ANSWER)) != 0;
+    speakers_tell[sort == PAIR_SESSION] += tell > 0;
+}
+
+static void count_accepted(const struct log_pair *p, size_t count, struct log_part leftover,
+                           enum pair_sort sort)
 {
     size_t records = records_of_both(p->first, p->second);
+    count_answers(p, count, sort);
     for (size_t i = 0; i < count; i++)
         count_entry(p, model_entries + ENTRY_BYTES * i);
     count_pins(p, count);
@@ -521,7 +551,7 @@ static void check_laws(const struct log_pair *p, size_t count, struct log_part l
     check_itself(below(2) ? p->first : p->second);
 }
 
-static void compare_pair(const struct log_pair *p)
+static void compare_pair(const struct log_pair *p, enum pair_sort sort)
 {
     struct log_part leftover;
     int64_t count =
@@ -532,7 +562,7 @@ static void compare_pair(const struct log_pair *p)
     compare_room(p, ROOM_EXACT, count > 0 ? (size_t)count : 0);
     if (count >= 0) {
         check_laws(p, (size_t)count, leftover);
-        count_accepted(p, (size_t)count, leftover);
+        count_accepted(p, (size_t)count, leftover, sort);
     }
     pairs_done++;
 }
@@ -547,7 +577,7 @@ static void some_pair(struct log_pair *p, enum pair_sort sort, size_t records)
     pair_spoil(&p->second, fault % LENGTHS, &dice);
     sorts[sort]++;
     faults[fault / LENGTHS][fault % LENGTHS]++;
-    compare_pair(p);
+    compare_pair(p, sort);
 }
 
 int main(int argc, char **argv)

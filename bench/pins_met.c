@@ -49,7 +49,7 @@ void count_pin(unsigned long long met[PINS_MET], const struct model *before, con
     uint8_t flags = before->reg[TXB0CTRL + 0x10 * record[1]] & (ABTF | MLOA | TXERR);
     met[PIN_CLEARS_FLAGS] += flags != 0;
     met[PIN_IN_FLIGHT] += before->flight != NO_FLIGHT;
-    met[PIN_IN_SESSION] += before->selected;
+    met[PIN_IN_SESSION] += before->selected != SELECT_HIGH;
     met[PIN_IN_LOAD] += before->open == OPEN_WRITE;
     met[PIN_IN_MODE_0 + before->mode]++;
 }

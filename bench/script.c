@@ -22,6 +22,7 @@ void script_free(struct script *s)
 void script_clear(struct script *s)
 {
     s->count = 0;
+    s->speaker = SPEAKER_CONTROLLER;
 }
 
 static void make_room(struct script *s)
@@ -50,16 +51,22 @@ void sc_set(struct script *s, uint8_t set)
     s->want[s->count - 1].set = set;
 }
 
+/* A select or exchange says who speaks. */
+static void put(struct script *s, uint8_t kind, uint8_t byte1, uint8_t refusal, uint8_t answer)
+{
+    uint8_t speaker = kind <= KIND_SELECT_HIGH ? s->speaker : 0;
+    uint8_t record[RECORD_BYTES] = {kind, byte1, speaker};
+    sc_raw(s, record, refusal, answer);
+}
+
 static void accepted(struct script *s, uint8_t kind, uint8_t byte1, uint8_t answer)
 {
-    uint8_t record[RECORD_BYTES] = {kind, byte1};
-    sc_raw(s, record, REFUSED_NOT, answer);
+    put(s, kind, byte1, REFUSED_NOT, answer);
 }
 
 void sc_refused(struct script *s, uint8_t refusal, uint8_t kind, uint8_t byte1)
 {
-    uint8_t record[RECORD_BYTES] = {kind, byte1};
-    sc_raw(s, record, refusal, 0);
+    put(s, kind, byte1, refusal, 0);
 }
 
 void sc_low(struct script *s)

@@ -25,12 +25,15 @@ struct script {
     struct script_want *want;
     size_t count;
     size_t room;
-    const char *file; /* file and line are taken over by the records that follow */
+    const char *file; /* file, line and speaker are taken over by the records that follow */
     int line;
+    uint8_t speaker;
 };
 
-/* First argument of the calls below: the script s, marked with this line. */
-#define AT (s->file = __FILE__, s->line = __LINE__, s)
+/* First argument of the calls below: the script s, marked with this line. The controller
+ * speaks, or the panel. */
+#define AT (s->file = __FILE__, s->line = __LINE__, s->speaker = 0, s)
+#define PANEL (s->file = __FILE__, s->line = __LINE__, s->speaker = 1, s)
 
 void script_init(struct script *s);
 void script_free(struct script *s);

@@ -210,21 +210,22 @@ static void time_by_turns(const struct pool *p, const uint8_t *timed, unsigned c
         }
 }
 
+/* Without the panel, so that times can be held against those of an older archive. */
 static size_t quiet_log(uint64_t seed, uint8_t *log, size_t records)
 {
-    gen_log(GEN_QUIET, seed, log, records);
+    gen_log_alone(GEN_QUIET, seed, log, records);
     return records;
 }
 
 static size_t busy_log(uint64_t seed, uint8_t *log, size_t records)
 {
-    gen_log(GEN_BUSY, seed, log, records);
+    gen_log_alone(GEN_BUSY, seed, log, records);
     return records;
 }
 
 static size_t random_log(uint64_t seed, uint8_t *log, size_t records)
 {
-    gen_log(GEN_MIXED, seed, log, records);
+    gen_log_alone(GEN_MIXED, seed, log, records);
     return records;
 }
 
@@ -378,6 +379,7 @@ static const struct sort by_record[] = {
     {"quiet", quiet_log, false},
     {"busy", busy_log, true},
     {"pins", pins_log, false},
+    {"panel", panel_log, false},
     {"random", random_log, false},
 };
 

@@ -139,6 +139,56 @@ size_t pins_log(uint64_t seed, uint8_t *log, size_t records)
     return records;
 }
 
+static void speak(struct writer *w, uint8_t kind, uint8_t byte1, uint8_t speaker)
+{
+    uint8_t record[RECORD_BYTES] = {kind, byte1, speaker};
+    put(w, record);
+}
+
+/* The code and any bytes behind it. */
+static void put_session(struct writer *w, uint8_t speaker, uint8_t code, unsigned bytes)
+{
+    speak(w, KIND_SELECT_LOW, 0, speaker);
+    speak(w, KIND_EXCHANGE, code, speaker);
+    if (below(w, 16) == 0)
+        speak(w, KIND_EXCHANGE, code, !speaker);
+    for (unsigned i = 0; i < bytes; i++)
+        speak(w, KIND_EXCHANGE, (uint8_t)below(w, 128), speaker);
+    speak(w, KIND_SELECT_HIGH, 0, speaker);
+}
+
+static void put_frames(struct writer *w)
+{
+    for (unsigned left = below(w, 4); left > 0; left--)
+        put_frame(w, any_word(w) & ~MATCH_EXIDE);
+    put_kind(w, KIND_BUS_IDLE, 0);
+    put_kind(w, KIND_FRAME_ENDS, END_SENT);
+}
+
+/* RXB0 takes what it can and rolls the rest over. The controller's READ RX BUFFER and LOAD
+ * end before CANCTRL. */
+size_t panel_log(uint64_t seed, uint8_t *log, size_t records)
+{
+    static const struct {
+        uint8_t code, bytes;
+    } own[] = {{SPI_READ, 2}, {SPI_READ, 9},      {SPI_READ_STATUS, 1}, {SPI_RX_STATUS, 1},
+               {0x90, 13},    {0x96, 8},          {0x44, 13},           {0x87, 0}},
+      panels[] = {{SPI_READ, 2}, {SPI_READ, 9}, {SPI_READ_STATUS, 1}, {SPI_RX_STATUS, 1},
+                  {0x94, 13},    {0x94, 15},    {0x45, 8},            {0x44, 16},
+                  {0x84, 0},     {SPI_WRITE, 3}, {0x90, 13},          {0x87, 0}};
+    struct writer w = {.dice = seed, .log = log, .records = records};
+    write_byte(&w, RXB0CTRL, RXM | BUKT);
+    write_byte(&w, CANCTRL, MODE_NORMAL << 5 | 7);
+    while (w.written < records) {
+        unsigned i = below(&w, sizeof own / sizeof *own);
+        unsigned j = below(&w, sizeof panels / sizeof *panels);
+        put_session(&w, SPEAKER_CONTROLLER, own[i].code, own[i].bytes);
+        put_frames(&w);
+        put_session(&w, SPEAKER_PANEL, panels[j].code, panels[j].bytes);
+    }
+    return records;
+}
+
 size_t late_log(uint64_t seed, uint8_t *log, size_t records)
 {
     return frames_log(seed, log, records, NO_FILTER);

@@ -1,6 +1,6 @@
 /*
  * Logs that are mostly frames, which each filter that is asked compares to the
- * last bit; and one of request pins.
+ * last bit; one of request pins; and one of controller and panel by turns.
  */
 #ifndef BENCH_SPEED_LOGS_H
 #define BENCH_SPEED_LOGS_H
@@ -34,5 +34,12 @@ size_t first_log(uint64_t seed, uint8_t *log, size_t records);
  * buffer, which is sent at once. Returns the number of records.
  */
 size_t pins_log(uint64_t seed, uint8_t *log, size_t records);
+
+/*
+ * A session of the controller, then one of the panel, and so on, with frames between them:
+ * READ, statuses, READ RX BUFFER, LOAD, RTS, and of the panel what it must not send. The
+ * other cuts in now and then. Returns the number of records.
+ */
+size_t panel_log(uint64_t seed, uint8_t *log, size_t records);
 
 #endif

@@ -643,6 +643,147 @@ static void test_unreached_resets(uint64_t state)
     }
 }
 
+/* ---- the panel on chips that no log reaches ---- */
+
+static const uint8_t panel_codes[] = {SPI_READ, SPI_READ_STATUS, SPI_RX_STATUS, 0x94,
+                                      0x96,     0x44,            0x45,          0x84};
+
+/* What a byte by the panel is to leave alone: nothing that it may start, or an instruction
+ * that it cannot have opened, or one that has gone as far as it goes. */
+static bool panel_does_nothing(const struct model *m)
+{
+    switch (m->open) {
+    case OPEN_READ:
+        return m->clears == RX0IF ||
+               (m->clears == RX1IF && (m->pointer < 0x71 || m->pointer > 0x7D));
+    case OPEN_WRITE:
+        return m->pointer < 0x51 || m->pointer > 0x5D;
+    }
+    return m->open >= OPEN_WRITE_ADDRESS && m->open <= OPEN_MODIFY_DATA;
+}
+
+/* A chip that the controller's step would leave, but for who has selected. */
+static struct model step_as_controller(struct model m, uint8_t kind, uint8_t sent, uint8_t *answer)
+{
+    uint8_t record[RECORD_BYTES] = {kind, sent}, refusal;
+    m.selected = SELECT_BY_CONTROLLER;
+    model_step(&m, record, &refusal, answer);
+    if (m.selected != SELECT_HIGH)
+        m.selected = SELECT_BY_PANEL;
+    return m;
+}
+
+/* A byte that does nothing: a mode request that is free to go goes all the same. */
+static struct model step_in_vain(struct model m, uint8_t *reply)
+{
+    struct model spent = m;
+    spent.open = OPEN_SPENT;
+    spent = step_as_controller(spent, KIND_EXCHANGE, 0, reply);
+    spent.open = m.open;
+    return spent;
+}
+
+static void check_panel_byte(const struct model *m, uint8_t sent)
+{
+    uint8_t record[RECORD_BYTES] = {KIND_EXCHANGE, sent, SPEAKER_PANEL}, reply;
+    struct model want = step_as_controller(*m, KIND_EXCHANGE, sent, &reply), got = *m;
+    bool forbidden = m->open == OPEN_CODE && !memchr(panel_codes, sent, sizeof panel_codes);
+    if (forbidden || panel_does_nothing(m))
+        want = step_in_vain(*m, &reply);
+    if (forbidden) {
+        want.open = OPEN_SPENT;
+        want.pointer = want.mask = 0;
+    }
+    struct outcome o = step_gives(&got, record);
+    EXPECT("refusal of a byte by the panel", REFUSED_NOT, o.refusal);
+    EXPECT("reply to the panel", reply, o.answer);
+    EXPECT("the chip after a byte by the panel", 0, memcmp(&want, &got, sizeof got));
+}
+
+/* Select high clears RX1IF where the controller's would, and never RX0IF. */
+static void check_panel_high(const struct model *m)
+{
+    uint8_t record[RECORD_BYTES] = {KIND_SELECT_HIGH, 0, SPEAKER_PANEL}, none;
+    struct model want = step_as_controller(*m, KIND_SELECT_HIGH, 0, &none), got = *m;
+    want.reg[CANINTF] = (uint8_t)((want.reg[CANINTF] & ~RX0IF) | (m->reg[CANINTF] & RX0IF));
+    EXPECT("refusal of select high by the panel", REFUSED_NOT, step_gives(&got, record).refusal);
+    EXPECT("the chip after select high by the panel", 0, memcmp(&want, &got, sizeof got));
+}
+
+/* By the other: refusals 18, 1 for select low, and 2 before both. */
+static void check_other_speaker(const struct model *m)
+{
+    bool panels = m->selected == SELECT_BY_PANEL;
+    for (unsigned i = 0; i < 3 * 6; i++) {
+        static const uint8_t speakers[] = {0, 1, 2, 3, 128, 255};
+        uint8_t kind = (uint8_t)(i % 3), speaker = speakers[i / 3];
+        uint8_t record[RECORD_BYTES] = {kind, 0, speaker};
+        struct model got = *m;
+        if (kind != KIND_SELECT_LOW && speaker == panels)
+            continue;
+        EXPECT("refusal by who speaks",
+               speaker > 1               ? REFUSED_FIELD
+               : kind == KIND_SELECT_LOW ? REFUSED_SELECT
+                                         : REFUSED_SPEAKER,
+               step_gives(&got, record).refusal);
+        EXPECT("nothing changes", 0, memcmp(m, &got, sizeof got));
+        record[kind == KIND_EXCHANGE || i & 1 ? 15 : 1] = 1;
+        EXPECT("a field comes first", REFUSED_FIELD, step_gives(&got, record).refusal);
+    }
+}
+
+static void check_panel_chip(const struct model *m)
+{
+    static const uint8_t sent[] = {0x00, 0x03, 0x5A, 0x84, 0x94, 0xFF};
+    if (m->open == OPEN_CODE)
+        for (unsigned code = 0; code < 256; code++)
+            check_panel_byte(m, (uint8_t)code);
+    for (unsigned i = 0; i < sizeof sent; i++)
+        check_panel_byte(m, sent[i]);
+    check_panel_high(m);
+    check_other_speaker(m);
+    struct model other = *m;
+    other.selected = SELECT_BY_CONTROLLER;
+    check_other_speaker(&other);
+}
+
+/* Every open instruction at every address, with any bytes in the registers, in every mode. */
+static void test_unreached_panel(uint64_t state)
+{
+    static const uint8_t cleared[] = {0, RX0IF, RX1IF};
+    for (unsigned i = 0; i < 2 * MODES * COVER_ADDRESSES; i++) {
+        struct model m = chip_in((uint8_t)(i / 2 % MODES));
+        for (unsigned a = 0; a < COVER_ADDRESSES; a++)
+            m.reg[a] = (uint8_t)(gen_next(&state) >> 40);
+        m.reg[TXB2CTRL] &= i & 1 ? (uint8_t)~TXREQ : 0xFF;
+        m.flight = (uint8_t)(gen_next(&state) >> 40) % (NO_FLIGHT + 1);
+        m.request = i & 1 ? NO_REQUEST : MODE_SLEEP;
+        m.selected = SELECT_BY_PANEL;
+        for (m.open = OPEN_CODE; m.open <= OPEN_SPENT && failures == 0; m.open++) {
+            m.pointer = (uint8_t)(i / (2 * MODES));
+            for (unsigned j = 0; j < (m.open == OPEN_READ ? 3 : 1); j++) {
+                m.clears = cleared[j];
+                check_panel_chip(&m);
+            }
+            m.clears = 0;
+        }
+    }
+}
+
+/* With select high everybody may select, and there is nobody to be refused for. */
+static void test_nobody_speaks(void)
+{
+    for (unsigned i = 0; i < 4; i++) {
+        uint8_t speaker = i & 1, kind = i & 2 ? KIND_EXCHANGE : KIND_SELECT_HIGH;
+        uint8_t record[RECORD_BYTES] = {kind, 0, speaker}, low[RECORD_BYTES] = {0, 0, speaker};
+        struct model m = chip_in(MODE_NORMAL), before = m;
+        EXPECT("with select high", REFUSED_SELECT, step_gives(&m, record).refusal);
+        EXPECT("nothing changes", 0, memcmp(&before, &m, sizeof m));
+        EXPECT("select low by anybody", REFUSED_NOT, step_gives(&m, low).refusal);
+        EXPECT("by whom", speaker ? SELECT_BY_PANEL : SELECT_BY_CONTROLLER, m.selected);
+    }
+}
+
 static void test_unreached(uint64_t seed)
 {
     test_unreached_requests();
@@ -657,6 +798,8 @@ static void test_unreached(uint64_t seed)
     test_unreached_resets(seed);
     test_unreached_matches(seed);
     test_unreached_sets(seed);
+    test_unreached_panel(seed);
+    test_nobody_speaks();
 }
 
 /* The one definition that model and generator share, against the rule's words.
@@ -1122,7 +1265,7 @@ static void test_tidied_falls_in_loads(struct script *s)
 static void test_tidied_refusals(struct script *s)
 {
     static const uint8_t damaged[RECORD_BYTES] = {KIND_FRAME, 0xFF};
-    static const uint8_t no_exchange[RECORD_BYTES] = {KIND_EXCHANGE, SPI_RESET, 1};
+    static const uint8_t no_exchange[RECORD_BYTES] = {KIND_EXCHANGE, SPI_RESET, SPEAKERS};
     size_t mark;
     script_clear(s);
     sc_mode(s, MODE_NORMAL);
@@ -1153,6 +1296,61 @@ static void test_tidied_refusals(struct script *s)
     sc_xfer(s, SPI_RTS | 1, 0);
     sc_std(s, 1, 0);
     CHECK_ORDER(0, 1, 2);
+}
+
+/* By the panel, with the controller cutting in. */
+static void test_tidied_panel(struct script *s)
+{
+    size_t mark;
+    script_clear(s);
+    sc_mode(s, MODE_NORMAL);
+    mark = s->count;
+
+    sc_low(PANEL); /* RTS: records of the other keep their place */
+    sc_std(PANEL, 1, 0);
+    sc_refused(AT, REFUSED_SPEAKER, KIND_EXCHANGE, SPI_READ);
+    sc_xfer(PANEL, 0x84, 0);
+    sc_refused(AT, REFUSED_SPEAKER, KIND_SELECT_HIGH, 0);
+    sc_std(PANEL, 2, 0);
+    sc_refused(AT, REFUSED_SELECT, KIND_SELECT_LOW, 0);
+    sc_high(PANEL);
+    CHECK_ORDER(1, 0, 2, 3, 4, 6, 7, 5);
+
+    sc_low(PANEL); /* still open at the end, though the controller says select high */
+    sc_xfer(PANEL, 0x84, 0);
+    sc_std(PANEL, 1, 0);
+    sc_refused(AT, REFUSED_SPEAKER, KIND_SELECT_HIGH, 0);
+    CHECK_ORDER(0, 1, 2, 3);
+}
+
+static void test_tidied_forbidden(struct script *s)
+{
+    size_t mark;
+    script_clear(s);
+    sc_mode(s, MODE_NORMAL);
+    mark = s->count;
+
+    sc_low(PANEL); /* a forbidden code alone: select high */
+    sc_std(PANEL, 1, 0);
+    sc_xfer(PANEL, 0x85, 0);
+    sc_std(PANEL, 2, 0);
+    sc_high(PANEL);
+    CHECK_ORDER(1, 3, 0, 2, 4);
+
+    sc_low(PANEL); /* and with a byte more: not listed */
+    sc_xfer(PANEL, 0x85, 0);
+    sc_std(PANEL, 2, 0);
+    sc_xfer(PANEL, 0x84, 0);
+    sc_high(PANEL);
+    CHECK_ORDER(0, 1, 2, 3, 4);
+
+    sc_low(PANEL); /* what would be a WRITE of one byte: not listed */
+    sc_xfer(PANEL, SPI_WRITE, 0);
+    sc_xfer(PANEL, CANINTF, 0);
+    sc_std(PANEL, 2, 0);
+    sc_xfer(PANEL, 0, 0);
+    sc_high(PANEL);
+    CHECK_ORDER(0, 1, 2, 3, 4, 5);
 }
 
 /* Of bus events: WRITE without one, RTS with two, READ and READ RX BUFFER with one. */
@@ -1201,6 +1399,105 @@ static void pin_sessions_to_count(struct script *s)
     sc_high(s);
 }
 
+/* A session with an event before its last byte. */
+static void send_bytes(struct script *s, uint8_t code, unsigned bytes)
+{
+    sc_low(s);
+    sc_xfer(s, code, 0);
+    for (unsigned i = 0; i < bytes; i++) {
+        if (i + 1 == bytes)
+            sc_rx_error(s, 0);
+        sc_xfer(s, 0, 0);
+    }
+    sc_high(s);
+}
+
+/* Of the panel: RTS with an event on either side, a forbidden code, READ cut, a LOAD that a
+ * fall cuts; and what is not listed but widely: RTS, forbidden, unknown, READ RX BUFFER, LOAD. */
+static void panel_sessions_to_count(struct script *s)
+{
+    sc_write(AT, TXRTSCTRL, 4);
+    sc_mode(AT, MODE_NORMAL);
+    sc_write(AT, CANINTF, RX1IF);
+    sc_low(PANEL);
+    sc_rx_error(PANEL, 0);
+    sc_xfer(PANEL, 0x84, 0);
+    sc_rx_error(PANEL, 0);
+    sc_high(PANEL);
+    sc_write(AT, TXB2CTRL, 0);
+    sc_low(PANEL);
+    sc_xfer(PANEL, SPI_RESET, 0);
+    sc_rx_error(PANEL, 0);
+    sc_high(PANEL);
+    send_bytes(PANEL, 0x84, 1);
+    sc_write(AT, TXB2CTRL, 0);
+    send_bytes(PANEL, 0x87, 2);
+    send_bytes(PANEL, 0xFF, 1);
+    send_bytes(PANEL, 0x96, 9);
+    send_bytes(PANEL, 0x96, 9); /* RXB1 is empty by now */
+    send_bytes(PANEL, 0x45, 9);
+    sc_low(PANEL); /* cut */
+    sc_xfer(PANEL, SPI_READ, 0);
+    sc_rx_error(PANEL, 0);
+    sc_high(PANEL);
+    sc_one(PANEL, SPI_READ); /* cut too, without an event */
+    sc_low(PANEL);
+    sc_xfer(PANEL, 0x44, 0);
+    sc_pin(PANEL, 2, 0);
+    sc_high(PANEL);
+    send_bytes(PANEL, 0x45, 9); /* TXREQ is set by now */
+}
+
+/* Of the controller, with a byte more than they have: RESET, BIT MODIFY, RTS and LOAD. */
+static void wide_sessions_to_count(struct script *s)
+{
+    send_bytes(AT, SPI_RESET, 1);
+    send_bytes(AT, SPI_BIT_MODIFY, 4);
+    send_bytes(AT, 0x80, 1);
+    send_bytes(AT, 0x40, 14);
+}
+
+static void check_panel_counts(const struct tidy_tally *tally, bool wide)
+{
+    static const uint8_t listed[TIDY_COMMANDS] = {
+        [TIDY_RTS] = 1, [TIDY_FORBIDDEN] = 1, [TIDY_READ] = 1};
+    static const uint8_t more[TIDY_COMMANDS] = {[TIDY_RTS] = 1,     [TIDY_FORBIDDEN] = 1,
+                                                [TIDY_UNKNOWN] = 1, [TIDY_READ_RX] = 1,
+                                                [TIDY_LOAD_TX] = 1};
+    static const uint8_t of_controller[TIDY_COMMANDS] = {
+        [TIDY_RTS] = 1, [TIDY_RESET] = 1, [TIDY_BIT_MODIFY] = 1};
+    for (unsigned i = 0; i < TIDY_COMMANDS; i++) {
+        unsigned want = listed[i] + (wide ? more[i] : 0);
+        unsigned both = want + (wide ? of_controller[i] : 0);
+        EXPECT("listed of the panel", want + (i == TIDY_READ), tally->panel_listed[i]);
+        EXPECT("with events", want, tally->panel_with_events[i]);
+        EXPECT("cut with events", i == TIDY_READ, tally->panel_cut_with_events[i]);
+        EXPECT("listed of both", both + (i == TIDY_WRITE ? 5 : i == TIDY_READ), tally->listed[i]);
+        EXPECT("of both with events", both, tally->with_events[i]);
+        EXPECT("of both cut with events", i == TIDY_READ, tally->cut_with_events[i]);
+    }
+    EXPECT("LOAD of the panel not listed for a fall", 1, tally->panel_unlisted_by_fall);
+    EXPECT("LOAD not listed for a fall", 1, tally->unlisted_by_fall);
+    EXPECT("widely", wide ? 5 : 0, tally->panel_widely);
+    EXPECT("widely, by whomever", wide ? 8 : 0, tally->widely);
+}
+
+static void test_tidied_panel_tally(struct script *s)
+{
+    struct tidy_tally tally = {0}, widely = {0};
+    script_clear(s);
+    panel_sessions_to_count(s);
+    wide_sessions_to_count(s);
+    uint8_t *tidied = malloc(RECORD_BYTES * s->count);
+    size_t *map = malloc(s->count * sizeof *map);
+    tidy_log(s->records, s->count, tidied, map, &tally);
+    check_panel_counts(&tally, false);
+    tidy_log_widely(s->records, s->count, tidied, map, &widely);
+    check_panel_counts(&widely, true);
+    free(tidied);
+    free(map);
+}
+
 /* What the tally counts, which the random tests lean on. */
 static void test_tidied_tally(struct script *s)
 {
@@ -1225,6 +1522,7 @@ static void test_tidied_tally(struct script *s)
     EXPECT("pins after", 1, tally.pins_after);
     EXPECT("refused pins", 1, tally.refused_pins);
     EXPECT("LOAD not listed for a fall", 1, tally.unlisted_by_fall);
+    EXPECT("of the panel", 0, tally.panel_unlisted_by_fall + tally.panel_listed[TIDY_RTS]);
     free(tidied);
     free(map);
 }
@@ -1239,7 +1537,10 @@ static void test_tidied_by_hand(void)
     test_tidied_pins(&s);
     test_tidied_falls_in_loads(&s);
     test_tidied_refusals(&s);
+    test_tidied_panel(&s);
+    test_tidied_forbidden(&s);
     test_tidied_tally(&s);
+    test_tidied_panel_tally(&s);
     script_free(&s);
 }
 
@@ -1255,14 +1556,14 @@ static struct model run(const uint8_t *log, size_t records, struct outcome *outc
 }
 
 /* Demand 3 on one log: outcomes agree through the map, end states are equal. */
-static void check_tidied(uint64_t seed, const uint8_t *log, size_t records,
+static void check_tidied(uint64_t seed, const uint8_t *log, size_t records, bool wide,
                          struct tidy_tally *tally)
 {
     uint8_t *tidied = malloc(RECORD_BYTES * records);
     struct outcome *as_came = malloc(records * sizeof *as_came),
                    *in_order = malloc(records * sizeof *in_order);
     size_t *map = malloc(records * sizeof *map);
-    tidy_log(log, records, tidied, map, tally);
+    (wide ? tidy_log_widely : tidy_log)(log, records, tidied, map, tally);
     struct model m = run(log, records, as_came);
     struct model n = run(tidied, records, in_order);
     for (size_t i = 0; i < records; i++) {
@@ -1345,7 +1646,7 @@ static void check_tidied_list(const struct tidied_list *t)
     }
     check_answers(t, false);
     check_answers(t, true);
-    check_tidied(0, t->s.records, t->s.count, NULL);
+    check_tidied(0, t->s.records, t->s.count, false, NULL);
     if (t->fall != NO_FALL)
         check_fall(t);
     *(t->from == t->to ? &tidied_stayed : &tidied_moved) += 1;
@@ -1358,7 +1659,7 @@ static void test_tidied_lists(void)
     tidied_lists(check_tidied_list);
 }
 
-static void test_demand_3(uint64_t seeds, struct tidy_tally *tally)
+static void test_demand_3(uint64_t seeds, struct tidy_tally *tally, struct tidy_tally *widely)
 {
     enum { LONG = 1500, LOGS = 2000, SHORT = 40, SHORT_LOGS = 20000 };
     uint8_t *log = malloc(RECORD_BYTES * LONG);
@@ -1370,7 +1671,11 @@ static void test_demand_3(uint64_t seeds, struct tidy_tally *tally)
             gen_damage(seed, log, records);
         if (i % 50 == 1)
             gen_noise(seed, log, RECORD_BYTES * records);
-        check_tidied(seed, log, records, tally);
+        if (i % 5 == 1)
+            gen_swap_speakers(seed, log, records);
+        check_tidied(seed, log, records, false, tally);
+        if (i % 2)
+            check_tidied(seed, log, records, true, widely);
     }
     free(log);
 }
@@ -1428,6 +1733,116 @@ static const char *broken_pins(const struct model *before, const uint8_t *record
                : "a pin record moves its level, and a fall requests as RTS does";
 }
 
+/* ---- what the panel leaves alone ---- */
+
+/* Counts, and the present session. */
+struct isolation {
+    unsigned long records;      /* by the panel, accepted */
+    unsigned long sessions;     /* that load nothing and request nothing */
+    unsigned long with_events;  /* of these */
+    unsigned long acting;       /* by LOAD or RTS, with events */
+    unsigned long acting_apart; /* of these: another byte where the controller's are */
+    struct model alone;         /* the chip that the events of the session alone leave */
+    uint8_t code;
+    unsigned exchanges, events;
+};
+
+static struct isolation isolation;
+
+/* Filters, masks, CNF1-3, CANCTRL, TXB0, TXB1 and RXB0. */
+static bool is_controllers(unsigned address)
+{
+    static const uint8_t parts[][2] = {{0x00, 0x0B}, {0x0F, 0x0F}, {0x10, 0x1B}, {0x20, 0x2A},
+                                       {0x30, 0x3D}, {0x40, 0x4D}, {0x60, 0x6D}};
+    for (size_t i = 0; i < sizeof parts / sizeof *parts; i++)
+        if (address >= parts[i][0] && address <= parts[i][1])
+            return true;
+    return false;
+}
+
+static bool differ_where_controllers(const struct model *a, const struct model *b)
+{
+    for (unsigned address = 0; address < COVER_ADDRESSES; address++)
+        if (is_controllers(address) &&
+            model_holds(a, (uint8_t)address) != model_holds(b, (uint8_t)address))
+            return true;
+    return false;
+}
+
+/* All but RX1IF, TXB2CTRL, 51h to 5Dh and the select side is as before. */
+static bool leaves_the_rest(const struct model *before, const struct model *after)
+{
+    struct model want = *after;
+    memcpy(want.reg, before->reg, sizeof want.reg);
+    memcpy(&want.reg[TXB2CTRL], &after->reg[TXB2CTRL], 1 + D7);
+    want.reg[CANINTF] &= (uint8_t)~RX1IF;
+    want.reg[CANINTF] |= after->reg[CANINTF] & RX1IF;
+    bool moved = want.tec != before->tec || want.rec != before->rec || want.mode != before->mode ||
+                 want.request != before->request || want.flight != before->flight ||
+                 memcmp(want.level, before->level, sizeof want.level) != 0;
+    return !moved && memcmp(&want, after, sizeof want) == 0;
+}
+
+/* At select high: what the events alone would have left, but for RX1IF. */
+static const char *broken_session(struct isolation *is, const struct model *after)
+{
+    bool acts = is->exchanges > 0 && (is->code == 0x84 || is->code == 0x44 || is->code == 0x45);
+    if (acts) {
+        is->acting += is->events > 0;
+        is->acting_apart += differ_where_controllers(&is->alone, after);
+        return NULL;
+    }
+    is->sessions++;
+    is->with_events += is->events > 0;
+    is->alone.reg[CANINTF] &= (uint8_t)~RX1IF;
+    is->alone.reg[CANINTF] |= after->reg[CANINTF] & RX1IF;
+    return memcmp(&is->alone, after, sizeof *after) == 0
+               ? NULL
+               : "a session of the panel leaves what its events alone would leave";
+}
+
+static void follow_session(struct isolation *is, const struct model *before, const uint8_t *record,
+                           const struct outcome *o)
+{
+    bool event = record[0] >= KIND_FRAME && record[0] < KINDS;
+    if (record[0] == KIND_SELECT_LOW && o->refusal == REFUSED_NOT) {
+        is->alone = *before;
+        is->exchanges = is->events = 0;
+    } else if (record[0] == KIND_EXCHANGE && o->refusal == REFUSED_NOT) {
+        if (is->exchanges++ == 0)
+            is->code = record[1];
+    } else if (event) {
+        step_gives(&is->alone, record);
+        is->events++;
+    }
+}
+
+static const char *broken_isolation(struct isolation *is, const struct model *before,
+                                    const uint8_t *record, const struct outcome *o,
+                                    const struct model *after)
+{
+    bool by_panel = record[0] <= KIND_SELECT_HIGH && record[2] == SPEAKER_PANEL;
+    if (before->selected == SELECT_BY_PANEL || after->selected == SELECT_BY_PANEL)
+        follow_session(is, before, record, o);
+    if (!by_panel || o->refusal != REFUSED_NOT)
+        return NULL;
+    is->records++;
+    if (!leaves_the_rest(before, after))
+        return "a record of the panel changes RX1IF, TXB2 and the select side alone";
+    if (~before->reg[CANINTF] & after->reg[CANINTF] & RX1IF)
+        return "the panel sets no flag";
+    return record[0] == KIND_SELECT_HIGH ? broken_session(is, after) : NULL;
+}
+
+static void check_isolation(void)
+{
+    EXPECT("records of the panel", true, isolation.records > 10000);
+    EXPECT("sessions of the panel that change nothing", true, isolation.sessions > 1000);
+    EXPECT("the same with events inside", true, isolation.with_events > 200);
+    EXPECT("its RTS and LOAD with events inside", true, isolation.acting > 100);
+    EXPECT("the same, another byte where the controller's are", true, isolation.acting_apart > 2);
+}
+
 static void test_every_step(uint64_t seed)
 {
     struct gen g;
@@ -1444,8 +1859,9 @@ static void test_every_step(uint64_t seed)
             fact = broken_set(&before, record, &got, &m);
         if (!fact)
             fact = broken_pins(&before, record, got.refusal, &m);
-        if (!got.refusal && record[0] == KIND_EXCHANGE && before.open == OPEN_CODE &&
-            record[1] == SPI_RESET && broken_reset(&before, &m))
+        if (!fact)
+            fact = broken_isolation(&isolation, &before, record, &got, &m);
+        if (!got.refusal && cover_is_reset(&before, record) && broken_reset(&before, &m))
             fact = "RESET keeps filters and message bytes and nothing else";
         if (got.refusal && (got.answer != 0 || memcmp(&before, &m, sizeof m) != 0))
             fact = "a refused record answers 0 and changes nothing";
@@ -1455,6 +1871,26 @@ static void test_every_step(uint64_t seed)
              (unsigned long long)seed, i + 1, fact);
         return;
     }
+}
+
+/* The logs without the panel are those that there were before it. */
+static void test_logs_alone(void)
+{
+    static const uint64_t want[GEN_PROFILES] = {0x6d0914333137c73a, 0x87ef5735e4ae725c,
+                                                0x405e7e0ccaae0fcb};
+    uint8_t *log = malloc((size_t)RECORD_BYTES * LOG_RECORDS_MAX);
+    for (unsigned profile = 0; profile < GEN_PROFILES; profile++) {
+        uint64_t sum = 1469598103934665603u; /* FNV-1a */
+        gen_log_alone(profile, 2515, log, LOG_RECORDS_MAX);
+        for (size_t i = 0; i < (size_t)RECORD_BYTES * LOG_RECORDS_MAX; i++)
+            sum = (sum ^ log[i]) * 1099511628211u;
+        EXPECT("sum of a log without the panel", want[profile], sum);
+        gen_hide_speakers(log, LOG_RECORDS_MAX);
+        for (size_t i = 0; i < LOG_RECORDS_MAX; i++)
+            if (log[RECORD_BYTES * i] <= KIND_SELECT_HIGH && log[RECORD_BYTES * i + 2] != 0)
+                fail(__FILE__, __LINE__, "record %zu: expected no speaker", i + 1);
+    }
+    free(log);
 }
 
 static void test_generator(uint64_t seed)
@@ -1529,6 +1965,36 @@ static void check_pins_log(void)
     }
     EXPECT("records counted", RECORDS, counted);
     EXPECT("mostly requests that are sent", true, sent > RECORDS / 6);
+    free(log);
+}
+
+/* The log of the panel: its records and the controller's are about as many, few are refused,
+ * and frames are stored and sent. */
+static void check_panel_log(void)
+{
+    enum { RECORDS = 10000 };
+    uint8_t *log = malloc(RECORD_BYTES * RECORDS);
+    size_t counted = panel_log(2515, log, RECORDS), spoken[SPEAKERS] = {0}, refused = 0, others = 0;
+    size_t stored = 0, sent = 0;
+    struct model m;
+    model_power_on(&m);
+    for (size_t i = 0; i < RECORDS; i++) {
+        const uint8_t *record = log + RECORD_BYTES * i;
+        struct outcome got = step_gives(&m, record);
+        refused += got.refusal == REFUSED_SPEAKER;
+        others += got.refusal != REFUSED_NOT && got.refusal != REFUSED_SPEAKER &&
+                  record[0] != KIND_FRAME_ENDS;
+        sent += record[0] == KIND_FRAME_ENDS && got.refusal == REFUSED_NOT;
+        stored += record[0] == KIND_FRAME && (got.answer == RX_IN_RXB0 || got.answer == RX_IN_RXB1);
+        if (record[0] <= KIND_SELECT_HIGH && got.refusal == REFUSED_NOT)
+            spoken[record[2]]++;
+    }
+    EXPECT("records counted", RECORDS, counted);
+    EXPECT("the controller speaks", true, spoken[SPEAKER_CONTROLLER] > RECORDS / 4);
+    EXPECT("the panel speaks", true, spoken[SPEAKER_PANEL] > RECORDS / 4);
+    EXPECT("the other cuts in", true, refused > 20 && refused < RECORDS / 20);
+    EXPECT("refused otherwise", 0, others);
+    EXPECT("frames stored and sent", true, stored > RECORDS / 200 && sent > RECORDS / 200);
     free(log);
 }
 
@@ -1726,7 +2192,7 @@ static struct rarest check_pins(const struct cover *c, bool show)
 {
     struct rarest rarest = {.count = ULONG_MAX};
     char text[64];
-    for (unsigned i = COVER_PIN_REQUESTS_0; i < COVER_POINTS; i++) {
+    for (unsigned i = COVER_PIN_REQUESTS_0; i <= COVER_PIN_LOAD_REFUSED; i++) {
         snprintf(text, sizeof text, "pin: %s", cover_text[i]);
         demand_corner(&rarest, c->count[i], text, show);
     }
@@ -1742,12 +2208,62 @@ static struct rarest check_pins(const struct cover *c, bool show)
     return rarest;
 }
 
+/* The rules of the panel by their effect. */
+static struct rarest check_panel(const struct cover *c, bool show)
+{
+    struct rarest rarest = {.count = ULONG_MAX};
+    char text[96];
+    for (unsigned i = COVER_PANEL_READ; i < COVER_POINTS; i++) {
+        snprintf(text, sizeof text, "panel: %s", cover_text[i]);
+        demand_corner(&rarest, c->count[i], text, show);
+    }
+    return rarest;
+}
+
+static bool can_be_cut(unsigned command)
+{
+    return command != TIDY_EMPTY && command != TIDY_RESET && command != TIDY_RTS &&
+           command != TIDY_UNKNOWN && command != TIDY_FORBIDDEN;
+}
+
+/* The same of the panel's, which has not all of them. */
+static void check_panel_tally(const struct tidy_tally *tally, bool show)
+{
+    for (unsigned i = 0; i < TIDY_COMMANDS; i++) {
+        bool has = i != TIDY_RESET && i != TIDY_BIT_MODIFY && i != TIDY_WRITE;
+        if (!has) {
+            EXPECT("listed sessions that the panel cannot have", 0, tally->panel_listed[i]);
+            continue;
+        }
+        if (tally->panel_with_events[i] < 3 ||
+            (can_be_cut(i) && tally->panel_cut_with_events[i] < 3))
+            fail(__FILE__, __LINE__, "tidied: expected the panel's \"%s\" with events inside",
+                 tidy_command_name[i]);
+        if (show)
+            printf("%10lu  listed %s of the panel with events (cut: %lu)\n",
+                   tally->panel_with_events[i], tidy_command_name[i],
+                   tally->panel_cut_with_events[i]);
+    }
+    EXPECT("LOADs of the panel not listed for a fall", true, tally->panel_unlisted_by_fall > 2);
+    if (show)
+        printf("%10lu  LOAD of the panel not listed for nothing but a fall\n",
+               tally->panel_unlisted_by_fall);
+}
+
+static void check_wide_tally(const struct tidy_tally *tally, bool show)
+{
+    EXPECT("sessions listed by the wide reading alone", true, tally->widely > 100);
+    EXPECT("the same of the panel", true, tally->panel_widely > 100);
+    if (show)
+        printf("%10lu  listed with events by the wide reading alone, %lu of them the panel's\n",
+               tally->widely, tally->panel_widely);
+}
+
 /* Listed commands, whole and cut, with events before and after their moment. */
 static void check_tidied_tally(const struct tidy_tally *tally, bool show)
 {
     for (unsigned i = 0; i < TIDY_COMMANDS; i++) {
-        bool can_be_cut = i != TIDY_EMPTY && i != TIDY_RESET && i != TIDY_RTS && i != TIDY_UNKNOWN;
-        if (tally->with_events[i] == 0 || (can_be_cut && tally->cut_with_events[i] == 0))
+        if (tally->with_events[i] == 0 || (can_be_cut(i) && tally->cut_with_events[i] == 0))
             fail(__FILE__, __LINE__, "tidied: expected listed \"%s\" with events inside, got none",
                  tidy_command_name[i]);
         if (show)
@@ -1767,13 +2283,13 @@ static void check_tidied_tally(const struct tidy_tally *tally, bool show)
 }
 
 struct rarest_met {
-    struct rarest stored, match, set, pin;
+    struct rarest stored, match, set, pin, panel;
 };
 
 /* Random logs are worth something only if they get everywhere. */
 static struct rarest_met test_coverage(uint64_t seeds, bool show)
 {
-    enum { RECORDS = 3000, LOGS = 400 };
+    enum { RECORDS = 3000, LOGS = 600 };
     struct cover c = {0};
     struct rarest_met rarest;
     uint8_t *log = malloc(RECORD_BYTES * RECORDS);
@@ -1795,6 +2311,7 @@ static struct rarest_met test_coverage(uint64_t seeds, bool show)
     rarest.match = check_match(&c, show);
     rarest.set = check_sets(&c, show);
     rarest.pin = check_pins(&c, show);
+    rarest.panel = check_panel(&c, show);
     return rarest;
 }
 
@@ -1813,13 +2330,19 @@ static void tell(const struct rarest_met *rarest)
            fall_differs, fall_alike);
     printf("corners of the request pins: the rarest decides %lu (%s)\n", rarest->pin.count,
            rarest->pin.sort);
+    printf("corners of the panel: the rarest decides %lu (%s)\n", rarest->panel.count,
+           rarest->panel.sort);
+    printf("isolation: %lu records of the panel, %lu sessions that change nothing, %lu of them "
+           "with events; RTS and LOAD with events %lu, another byte of the controller's in %lu\n",
+           isolation.records, isolation.sessions, isolation.with_events, isolation.acting,
+           isolation.acting_apart);
 }
 
 int main(int argc, char **argv)
 {
     uint64_t seed = argc > 1 ? strtoull(argv[1], NULL, 0) : 2515;
     bool show = argc > 2 && strcmp(argv[2], "show") == 0;
-    struct tidy_tally tally = {0};
+    struct tidy_tally tally = {0}, widely = {0};
     printf("model tests, seed %llu\n", (unsigned long long)seed);
     test_data_bytes();
     test_fixed_cases();
@@ -1835,12 +2358,17 @@ int main(int argc, char **argv)
     test_tidied_by_hand();
     test_tidied_lists();
     test_generator(seed);
+    test_logs_alone();
     check_speed_log(late_log, MATCH_FILTERS);
     check_speed_log(last_log, 5);
     check_pins_log();
+    check_panel_log();
     test_every_step(seed);
-    test_demand_3(seed, &tally);
+    check_isolation();
+    test_demand_3(seed, &tally, &widely);
     check_tidied_tally(&tally, show);
+    check_panel_tally(&tally, show);
+    check_wide_tally(&widely, show);
     struct rarest_met rarest = test_coverage(seed, show);
     if (failures) {
         printf("%u failures\n", failures);

@@ -9,12 +9,15 @@
 const char *const tidy_command_name[TIDY_COMMANDS] = {
     "no exchange", "RESET",     "RTS",            "BIT MODIFY",     "READ",         "WRITE",
     "READ STATUS", "RX STATUS", "READ RX BUFFER", "LOAD TX BUFFER", "unknown code",
+    "forbidden code",
 };
 
 enum { MOMENT_MAX = 4 }; /* no command acts later than its fourth exchange */
 
 struct session {
     size_t low;                    /* index of its select low */
+    bool panels;
+    bool wide;                     /* bytes without effect past the last do not matter */
     size_t exchange_at[MOMENT_MAX];
     size_t exchanges;
     uint8_t code;
@@ -32,10 +35,14 @@ struct verdict {
     bool cut;
 };
 
-static void open_session(struct session *s, const struct model *m, size_t index)
+static void open_session(struct session *s, const struct model *m, const uint8_t *record,
+                         size_t index)
 {
+    bool wide = s->wide;
     memset(s, 0, sizeof *s);
+    s->wide = wide;
     s->low = index;
+    s->panels = record[2] == SPEAKER_PANEL;
     s->rx_full = m->reg[CANINTF] & (RX0IF | RX1IF);
     for (unsigned n = 0; n < 3; n++)
         s->tx_free[n] = !(m->reg[TXB0CTRL + 0x10 * n] & TXREQ) && m->flight != n;
@@ -74,6 +81,14 @@ static struct verdict acts_at(const struct session *s, enum tidy_command command
     return v;
 }
 
+/* The same, and further bytes do nothing. */
+static struct verdict acts_once(const struct session *s, enum tidy_command command, size_t last)
+{
+    struct verdict v = acts_at(s, command, last);
+    v.listed = v.listed || s->wide;
+    return v;
+}
+
 /* A command of at most most exchanges that acts at select high. */
 static struct verdict acts_at_high(const struct session *s, enum tidy_command command, bool ready,
                                    size_t most)
@@ -94,36 +109,64 @@ static size_t buffer_exchanges(bool from_data)
 static struct verdict judge_load(const struct session *s)
 {
     unsigned n = (s->code & 7) / 2;
-    return acts_at_high(s, TIDY_LOAD_TX, s->tx_free[n] && !s->fell[n],
-                        buffer_exchanges(s->code & 1));
+    bool ready = s->tx_free[n] && !s->fell[n];
+    struct verdict v = acts_at_high(s, TIDY_LOAD_TX, ready, buffer_exchanges(s->code & 1));
+    v.listed = v.listed || (s->wide && s->panels && ready);
+    return v;
+}
+
+static struct verdict judge_read_rx(const struct session *s)
+{
+    bool ready = s->rx_full & (s->code & 4 ? RX1IF : RX0IF);
+    struct verdict v = acts_at_high(s, TIDY_READ_RX, ready, buffer_exchanges(s->code & 2));
+    v.listed = v.listed || (s->wide && s->panels && ready);
+    return v;
+}
+
+/* A code that does nothing, alone. */
+static struct verdict judge_idle_code(const struct session *s, enum tidy_command command)
+{
+    struct verdict v = acts_at_high(s, command, true, 1);
+    v.listed = v.listed || s->wide;
+    return v;
+}
+
+/* Codes of the listed commands that are the controller's alone. */
+static bool is_forbidden(const struct session *s)
+{
+    static const uint8_t codes[] = {SPI_RESET, SPI_WRITE, SPI_BIT_MODIFY, 0x90, 0x92, 0x40,
+                                    0x41,      0x42,      0x43,           0x80, 0x81, 0x82,
+                                    0x83,      0x85,      0x86,           0x87};
+    return s->panels && memchr(codes, s->code, sizeof codes) != NULL;
 }
 
 static struct verdict judge(const struct session *s)
 {
     if (s->exchanges == 0)
         return acts_at_high(s, TIDY_EMPTY, true, 0);
+    if (is_forbidden(s))
+        return judge_idle_code(s, TIDY_FORBIDDEN);
     switch (s->code) {
     case SPI_RESET:
-        return acts_at(s, TIDY_RESET, 1);
+        return acts_once(s, TIDY_RESET, 1);
     case SPI_READ:
         return acts_at(s, TIDY_READ, 3);
     case SPI_WRITE:
         return acts_at(s, TIDY_WRITE, 3);
     case SPI_BIT_MODIFY:
-        return acts_at(s, TIDY_BIT_MODIFY, 4);
+        return acts_once(s, TIDY_BIT_MODIFY, 4);
     case SPI_READ_STATUS:
         return acts_at(s, TIDY_READ_STATUS, 2);
     case SPI_RX_STATUS:
         return acts_at(s, TIDY_RX_STATUS, 2);
     case 0x90: case 0x92: case 0x94: case 0x96:
-        return acts_at_high(s, TIDY_READ_RX, s->rx_full & (s->code & 4 ? RX1IF : RX0IF),
-                            buffer_exchanges(s->code & 2));
+        return judge_read_rx(s);
     case 0x40: case 0x41: case 0x42: case 0x43: case 0x44: case 0x45:
         return judge_load(s);
     case 0x80: case 0x81: case 0x82: case 0x83: case 0x84: case 0x85: case 0x86: case 0x87:
-        return acts_at(s, TIDY_RTS, 1);
+        return acts_once(s, TIDY_RTS, 1);
     }
-    return acts_at_high(s, TIDY_UNKNOWN, true, 1);
+    return judge_idle_code(s, TIDY_UNKNOWN);
 }
 
 static bool is_event(const uint8_t *log, size_t i)
@@ -157,6 +200,13 @@ static bool unlisted_by_fall(const struct session *s)
     return judge(&without).listed;
 }
 
+static bool only_widely(const struct session *s)
+{
+    struct session strictly = *s;
+    strictly.wide = false;
+    return !judge(&strictly).listed;
+}
+
 static void count_pins(const struct session *s, const uint8_t *log, size_t moment, size_t high,
                        struct tidy_tally *tally)
 {
@@ -164,6 +214,29 @@ static void count_pins(const struct session *s, const uint8_t *log, size_t momen
         if (log[RECORD_BYTES * i] == KIND_REQUEST_PIN)
             *(i < moment ? &tally->pins_before : &tally->pins_after) += 1;
     tally->refused_pins += s->refused_pins;
+}
+
+static void count_unlisted(const struct session *s, struct tidy_tally *tally)
+{
+    bool by_fall = unlisted_by_fall(s);
+    tally->unlisted_by_fall += by_fall;
+    tally->panel_unlisted_by_fall += by_fall && s->panels;
+}
+
+static void count_listed(const struct session *s, const struct verdict *v, bool events,
+                         struct tidy_tally *tally)
+{
+    bool widely = events && only_widely(s), cut = events && v->cut;
+    tally->listed[v->command]++;
+    tally->with_events[v->command] += events;
+    tally->cut_with_events[v->command] += cut;
+    tally->widely += widely;
+    if (!s->panels)
+        return;
+    tally->panel_listed[v->command]++;
+    tally->panel_with_events[v->command] += events;
+    tally->panel_cut_with_events[v->command] += cut;
+    tally->panel_widely += widely;
 }
 
 static void close_session(const struct session *s, const uint8_t *log, size_t high, size_t *map,
@@ -174,28 +247,23 @@ static void close_session(const struct session *s, const uint8_t *log, size_t hi
     size_t moment = v.moment_exchange ? s->exchange_at[v.moment_exchange - 1] : high;
     if (!v.listed) {
         if (tally)
-            tally->unlisted_by_fall += unlisted_by_fall(s);
+            count_unlisted(s, tally);
         return;
     }
     arrange(log, s->low, moment, high, map, &before, &after);
     if (!tally)
         return;
     count_pins(s, log, moment, high, tally);
-    tally->listed[v.command]++;
     tally->events_before += before;
     tally->events_after += after;
-    if (before + after > 0) {
-        tally->with_events[v.command]++;
-        if (v.cut)
-            tally->cut_with_events[v.command]++;
-    }
+    count_listed(s, &v, before + after > 0, tally);
 }
 
-void tidy_log(const uint8_t *log, size_t records, uint8_t *tidied, size_t *map,
-              struct tidy_tally *tally)
+static void tidy(const uint8_t *log, size_t records, uint8_t *tidied, size_t *map, bool wide,
+                 struct tidy_tally *tally)
 {
     struct model m;
-    struct session s = {0};
+    struct session s = {.wide = wide};
     model_power_on(&m);
     for (size_t i = 0; i < records; i++) {
         const uint8_t *record = log + RECORD_BYTES * i;
@@ -203,7 +271,7 @@ void tidy_log(const uint8_t *log, size_t records, uint8_t *tidied, size_t *map,
         map[i] = i;
         struct model before = m;
         if (record[0] == KIND_SELECT_LOW && !m.selected)
-            open_session(&s, &m, i);
+            open_session(&s, &m, record, i);
         model_step(&m, record, &refusal, &answer);
         if (record[0] == KIND_REQUEST_PIN)
             note_pin(&s, &before, record, refusal != REFUSED_NOT);
@@ -216,4 +284,16 @@ void tidy_log(const uint8_t *log, size_t records, uint8_t *tidied, size_t *map,
     }
     for (size_t i = 0; i < records; i++)
         memcpy(tidied + RECORD_BYTES * i, log + RECORD_BYTES * map[i], RECORD_BYTES);
+}
+
+void tidy_log(const uint8_t *log, size_t records, uint8_t *tidied, size_t *map,
+              struct tidy_tally *tally)
+{
+    tidy(log, records, tidied, map, false, tally);
+}
+
+void tidy_log_widely(const uint8_t *log, size_t records, uint8_t *tidied, size_t *map,
+                     struct tidy_tally *tally)
+{
+    tidy(log, records, tidied, map, true, tally);
 }

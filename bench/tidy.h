@@ -21,6 +21,7 @@ enum tidy_command {
     TIDY_READ_RX,
     TIDY_LOAD_TX,
     TIDY_UNKNOWN,
+    TIDY_FORBIDDEN, /* by the panel; it counts as an unknown code */
     TIDY_COMMANDS
 };
 
@@ -35,6 +36,13 @@ struct tidy_tally {
     unsigned long pins_after;
     unsigned long refused_pins;
     unsigned long unlisted_by_fall; /* LOADs that are not listed for nothing but a fall inside */
+    /* Of these sessions those of the panel. */
+    unsigned long panel_listed[TIDY_COMMANDS];
+    unsigned long panel_with_events[TIDY_COMMANDS];
+    unsigned long panel_cut_with_events[TIDY_COMMANDS];
+    unsigned long panel_unlisted_by_fall;
+    unsigned long widely; /* with events, listed by the wide reading only */
+    unsigned long panel_widely;
 };
 
 extern const char *const tidy_command_name[TIDY_COMMANDS];
@@ -45,5 +53,14 @@ extern const char *const tidy_command_name[TIDY_COMMANDS];
  */
 void tidy_log(const uint8_t *log, size_t records, uint8_t *tidied, size_t *map,
               struct tidy_tally *tally);
+
+/*
+ * The same where a session is listed too if it goes on with bytes that do nothing: after
+ * RESET, RTS, BIT MODIFY and a code that does nothing itself, and behind data byte 7 of
+ * the panel's READ RX BUFFER and LOAD. Nothing is to hang on that reading. What lies behind
+ * data byte 7 is tested so and not proved.
+ */
+void tidy_log_widely(const uint8_t *log, size_t records, uint8_t *tidied, size_t *map,
+                     struct tidy_tally *tally);
 
 #endif

@@ -4,9 +4,10 @@
  * A record is 16 bytes. Byte 0 is its kind; bytes not named for a kind are 0.
  *
  *   kind  record              fields                           answer
- *   0     select low                                           0
- *   1     exchange            byte 1: byte sent                the reply byte
- *   2     select high                                          0
+ *   0     select low          byte 2: who speaks, 0 the        0
+ *                             controller, 1 the panel
+ *   1     exchange            byte 1: byte sent; byte 2: who   the reply byte
+ *   2     select high         byte 2: who                      0
  *   3     frame heard         byte 1: bit 0 extended, bit 1    0 no match, 1 in RXB0,
  *                             remote; byte 2: data length      2 in RXB1, 3 lost,
  *                             code (DLC) 0 to 15, where 9 to   4 not listening, 5 woke
@@ -23,6 +24,15 @@
  *   8     request pin         byte 1: n of TXnRTS, 0 to 2;     0
  *                             byte 2: its level, 0 or 1
  *
+ * A session belongs to whoever selected: until its select high an exchange or a
+ * select high by the other is refused. The panel may READ (03h), ask READ STATUS
+ * (A0h) and RX STATUS (B0h), READ RX BUFFER of RXB1 (94h, 96h), LOAD TX BUFFER of
+ * TXB2 (44h, 45h) and RTS by 84h. With any other first byte its session does
+ * nothing and replies 0. Its READ RX BUFFER and its LOAD end behind data byte 7:
+ * further bytes do nothing and reply 0, and select high still clears RX1IF after
+ * the read.
+ *
+ * A record gets the first refusal that applies, in the order 2, 1, 18, 3, 4, 5.
  * Two bytes come back for each record, refusal then answer. A refused record
  * answers 0 and changes no byte of the chip, which takes the next record.
  *
@@ -51,7 +61,7 @@
 extern "C" {
 #endif
 
-#define MCP2515_VERSION "0.3.0" /* of header, archive and tool */
+#define MCP2515_VERSION "0.4.0" /* of header, archive and tool */
 
 #define MCP2515_RECORD_SIZE 16
 #define MCP2515_ANSWER_SIZE 2     /* refusal and answer of one record */
@@ -83,20 +93,26 @@ extern "C" {
  *            RXB1, 11 READ STATUS, 12 RX STATUS; from 13 on nothing more
  *   147      its address (bit 7 does not count), for 3, 5 and 7 to 10
  *   148      its mask, for 8
- *   149-150  spare, never changed
- *   151      the version, 2
+ *   149      who selected, for a select that is low: 0 the controller, any other
+ *            byte the panel. While the panel has selected, an instruction with
+ *            nothing more for it (4, 6 to 9, 5 outside 51h to 5Dh, 10 outside 71h
+ *            to 7Dh) does nothing, replies 0 and stays as it is; select high after
+ *            9 clears nothing, after 10 it clears RX1IF at any address
+ *   150      spare, never changed
+ *   151      the version, 3
  *
  * What an address shows is asked by mcp2515_hold; the places below are those
  * of what no address shows whole.
  */
 #define MCP2515_CHIP_SIZE 152
-#define MCP2515_CHIP_VERSION 2
+#define MCP2515_CHIP_VERSION 3
 #define MCP2515_PLACE_TEC_LOW 137
 #define MCP2515_PLACE_TEC_HIGH 139
 #define MCP2515_PLACE_FLIGHT 141
 #define MCP2515_PLACE_MODE_REQUESTED 142
 #define MCP2515_PLACE_PINS 143
 #define MCP2515_PLACE_OPEN 146
+#define MCP2515_PLACE_SPEAKER 149
 #define MCP2515_PLACE_VERSION 151
 
 /* Refusals of a record, beside 0. */
@@ -105,6 +121,7 @@ extern "C" {
 #define MCP2515_REFUSED_IN_FLIGHT 3 /* kind 3, 4 or 6 during the flight of an own frame */
 #define MCP2515_REFUSED_NO_FLIGHT 4 /* kind 5 without a flight */
 #define MCP2515_REFUSED_STATE 5     /* kind 5 not sent in Loopback; kind 7 without bus-off */
+#define MCP2515_REFUSED_SPEAKER 18  /* exchange or select high by the one who did not select */
 
 /* Refusals of a call, returned as negative numbers. */
 #define MCP2515_REFUSED_LENGTH 6     /* no whole number of records */

@@ -249,7 +249,7 @@ shows() {
 } >"$work/busy.log"
 shows "$work/busy.log" \
     'records        63, refused 1' 'mode           Normal, Loopback is requested and waits' \
-    'INT            low' 'select         low, an instruction is open' 'in flight      TXB1' \
+    'INT            low' 'select         low by the controller, an instruction is open' 'in flight      TXB1' \
     'CANCTRL   4Fh  REQOP 2 OSM CLKEN CLKPRE 3' 'CANSTAT   0Ch  OPMOD 0 ICOD 6' \
     'CANINTE   03h  RX1IE RX0IE' 'CANINTF   01h  RX0IF' 'TXB1CTRL  08h  TXREQ TXP 0' \
     '               standard 123h, RTR, DLC 3, data [11 22 33 00 00 00 00 00]' \
@@ -308,7 +308,7 @@ for help in "--help" "replay --help" "chip --help" "replay --refused --help"; do
 done
 run --version
 status 0 $? "--version"
-grep -q '^mcp2515 [0-9.]*, chip version 2$' "$work/out" || stop "--version: $(cat "$work/out")"
+grep -q '^mcp2515 [0-9.]*, chip version 3$' "$work/out" || stop "--version: $(cat "$work/out")"
 for bad in "" "nonsense" "--nonsense" "replay --nonsense" "replay -x" "replay a b" "chip" "chip a b" \
     "chip --refused a" "-" "--"; do
     # shellcheck disable=SC2086
@@ -330,5 +330,7 @@ say "--help, --version, bad arguments, --"
 . "$root/tools/check_filters.sh"
 # shellcheck source=tools/check_pins.sh
 . "$root/tools/check_pins.sh"
+# shellcheck source=tools/check_panel.sh
+. "$root/tools/check_panel.sh"
 
 echo "tool check: $tried groups passed"

@@ -424,19 +424,24 @@ tells 'own frame ends, sent: in RXB1, no filter' 05
 steps 81; step 04
 tells 'own frame ends, sent: lost, no filter' 05
 
-# Beside a log of records that are all refused each record has a line.
-refused_words='bus-off recovery: refused, not bus-off'
-for _ in $(seq "$(($(stat -c %s "$work/told.log") / 16))"); do record 07; done >"$work/recoveries.log"
 # the_told: of the lines of standard input those asked for, without the answers
 the_told() {
     awk 'NR == FNR { asked[$1]; next } $1 in asked' "$work/told" - | sed 's/^\([0-9]*\) .* # /\1 /'
 }
-compared 1 --words "$work/told.log" "$work/recoveries.log"
-sed "s/ | $refused_words\$//" "$work/out" | the_told >"$work/first"
-same "$work/told" "$work/first" "the words of the first log"
-compared 1 --words "$work/recoveries.log" "$work/told.log"
-sed "s/ # $refused_words | / # /" "$work/out" | the_told >"$work/second"
-same "$work/told" "$work/second" "the words of the second log"
+
+# all_told: what is told of told.log as the first log and as the second. Beside a log of
+# records that are all refused each record has a line.
+all_told() {
+    local refused='bus-off recovery: refused, not bus-off'
+    for _ in $(seq "$(($(stat -c %s "$work/told.log") / 16))"); do record 07; done >"$work/recoveries.log"
+    compared 1 --words "$work/told.log" "$work/recoveries.log"
+    sed "s/ | $refused\$//" "$work/out" | the_told >"$work/first"
+    same "$work/told" "$work/first" "the words of the first log"
+    compared 1 --words "$work/recoveries.log" "$work/told.log"
+    sed "s/ # $refused | / # /" "$work/out" | the_told >"$work/second"
+    same "$work/told" "$work/second" "the words of the second log"
+}
+all_told
 say "compare --words: $(wc -l <"$work/told") records of all kinds, answers and refusals, in either log"
 
 # What is the same in both is said once, what came of two records only where it differs.

@@ -196,21 +196,29 @@ static void print_mask(const struct ran *ran, unsigned n, unsigned address)
 
 /* ---- the whole chip ---- */
 
-static void print_state(const struct ran *ran)
+/* Who selected means something only while the select is low. */
+static void print_select(const struct ran *ran)
 {
     uint8_t first[MCP2515_CHIP_SIZE];
+    mcp2515_power_on(first, sizeof first); /* its select line is high */
+    if (ran->chip[MCP2515_PLACE_OPEN] == first[MCP2515_PLACE_OPEN])
+        puts("select         high");
+    else
+        printf("select         low by the %s, an instruction is open\n",
+               ran->chip[MCP2515_PLACE_SPEAKER] == 0 ? "controller" : "panel");
+}
+
+static void print_state(const struct ran *ran)
+{
     uint8_t request = ran->chip[MCP2515_PLACE_MODE_REQUESTED];
     uint8_t flight = ran->chip[MCP2515_PLACE_FLIGHT];
-    mcp2515_power_on(first, sizeof first); /* its select line is high */
     printf("records        %zu, refused %zu\n", ran->records, ran->refused);
     printf("mode           %s", mode_name(held(ran, 0x0E) >> 5));
     if (request < 5)
         printf(", %s is requested and waits", mode_name(request));
     printf("\nINT            %s\n",
            mcp2515_int_is_low(ran->chip, sizeof ran->chip) == 1 ? "low" : "high");
-    printf("select         %s\n", ran->chip[MCP2515_PLACE_OPEN] == first[MCP2515_PLACE_OPEN]
-                                      ? "high"
-                                      : "low, an instruction is open");
+    print_select(ran);
     if (flight < 3)
         printf("in flight      TXB%u\n", flight);
     else
@@ -307,9 +315,9 @@ const struct subcommand chip_command = {
     .summary = "print the registers after a log, by name",
     .help = "usage: mcp2515 chip [--] LOG\n\n"
             "Runs LOG (- is standard input) from power-on and prints what the chip holds then:\n"
-            "mode, INT, request pins, error counters, control registers with the bits that are\n"
-            "set, buffers, masks and filters. Data bytes that a message does not carry are in\n"
-            "brackets.\n\n"
+            "mode, INT, who selected while the select is low, request pins, error counters,\n"
+            "control registers with the bits that are set, buffers, masks and filters. Data bytes\n"
+            "that a message does not carry are in brackets.\n\n"
             "Exit status: 0, or 2 for trouble. A log that ends inside a record (refusal 6) or\n"
             "has more than 65,535 (refusal 8) is trouble: it is not run and nothing is printed.\n",
     .run = run,

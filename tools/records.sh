@@ -3,9 +3,9 @@
 
 # record BYTE..: sixteen bytes, given in hexadecimal, zeros after them
 record() {
-    # shellcheck disable=SC2059
-    printf "$(printf '\\x%s' "$@")"
-    head -c $((16 - $#)) /dev/zero
+    local given zeros='\x0\x0\x0\x0\x0\x0\x0\x0\x0\x0\x0\x0\x0\x0\x0\x0' # three characters for each
+    printf -v given '\\x%s' "$@"
+    printf '%b' "$given${zeros:3 * $#}"
 }
 
 # session BYTE..: select low, an exchange for each byte, select high
@@ -13,4 +13,11 @@ session() {
     record 0
     for byte in "$@"; do record 1 "$byte"; done
     record 2
+}
+
+# panel_session BYTE..: the same by the panel
+panel_session() {
+    record 0 0 1
+    for byte in "$@"; do record 1 "$byte" 1; done
+    record 2 0 1
 }

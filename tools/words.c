@@ -43,11 +43,36 @@ static void add_bytes(char *text, const uint8_t *bytes, size_t count)
         add(text, " %02X", bytes[i]);
 }
 
+/* ---- who speaks ---- */
+
+/* Byte 2 of kinds 0 to 2, without refusal 2. */
+static bool panel_speaks(const uint8_t *record)
+{
+    return record[0] <= SELECT_HIGH && record[2] != 0;
+}
+
+/* The controller is not named: a log without a panel reads as it always did. */
+static const char *speaker_words(const uint8_t *record)
+{
+    return panel_speaks(record) ? " by the panel" : "";
+}
+
+static bool panel_selected(const uint8_t *chip)
+{
+    return chip[MCP2515_PLACE_SPEAKER] != 0;
+}
+
 /* ---- the byte of an exchange within its instruction ---- */
 
-/* The places of the open instruction, and the one of its codes that is asked for here. */
-enum { PLACE_ADDRESS = MCP2515_PLACE_OPEN + 1, AWAITS_CODE = 1 };
+/* The place of its address, and those of its numbers that are asked for here. */
+enum {
+    PLACE_ADDRESS = MCP2515_PLACE_OPEN + 1,
+    AWAITS_CODE = 1,
+    STORES = 5,
+    REPLIES_FROM_RXB1 = 10
+};
 
+/* NULL where there is none. */
 static const char *instruction_name(uint8_t code)
 {
     switch (code) {
@@ -68,7 +93,21 @@ static const char *instruction_name(uint8_t code)
         return "LOAD TX BUFFER";
     if ((code & 0xF9) == 0x90)
         return "READ RX BUFFER";
-    return (code & 0xF8) == 0x80 ? "RTS" : "unknown instruction";
+    return (code & 0xF8) == 0x80 ? "RTS" : NULL;
+}
+
+static bool is_for_panel(uint8_t code)
+{
+    static const uint8_t codes[] = {0x03, 0x44, 0x45, 0x84, 0x94, 0x96, 0xA0, 0xB0};
+    return memchr(codes, code, sizeof codes) != NULL;
+}
+
+static void tell_code(char *text, const uint8_t *chip, uint8_t code)
+{
+    const char *name = instruction_name(code);
+    add(text, ", %s", name != NULL ? name : "unknown instruction");
+    if (name != NULL && panel_selected(chip) && !is_for_panel(code))
+        add(text, ", a code not for the panel");
 }
 
 /* What the next byte is to an open instruction. */
@@ -77,6 +116,22 @@ struct part {
     bool has_address; /* which follows the name */
     bool replies;
 };
+
+/*
+ * What the panel stores is always of a LOAD TX BUFFER. This and its READ RX BUFFER
+ * stop behind data byte 7. NULL where the part is the same as for the controller.
+ */
+static const struct part *panel_part(const uint8_t *chip)
+{
+    enum { DATA_BYTE_7 = 0x0D }; /* the lower digit of its address in each buffer */
+    static const struct part load = {"LOAD TX BUFFER to", true, false};
+    static const struct part load_ended = {"past data byte 7 of TXB2", false, false};
+    static const struct part read_ended = {"past data byte 7 of RXB1", false, false};
+    bool ended = (chip[PLACE_ADDRESS] & 0x0F) > DATA_BYTE_7;
+    if (chip[MCP2515_PLACE_OPEN] == STORES)
+        return ended ? &load_ended : &load;
+    return chip[MCP2515_PLACE_OPEN] == REPLIES_FROM_RXB1 && ended ? &read_ended : NULL;
+}
 
 /* By the chip's place of the open instruction, from 13 on the last. */
 static const struct part *open_part(const uint8_t *chip)
@@ -99,15 +154,19 @@ static const struct part *open_part(const uint8_t *chip)
     };
     enum { LAST = sizeof parts / sizeof *parts - 1 };
     uint8_t open = chip[MCP2515_PLACE_OPEN];
-    return &parts[open < LAST ? open : LAST];
+    const struct part *of_panel = panel_selected(chip) ? panel_part(chip) : NULL;
+    return of_panel != NULL ? of_panel : &parts[open < LAST ? open : LAST];
 }
 
-static void tell_exchange(char *text, const uint8_t *chip, uint8_t byte)
+/* A byte that is refused is no part of the open instruction, which is the other's. */
+static void tell_exchange(char *text, const uint8_t *chip, const uint8_t *record, bool taken)
 {
     const struct part *part = open_part(chip);
-    add(text, "exchange %02Xh", byte);
+    add(text, "exchange %02Xh%s", record[1], speaker_words(record));
+    if (!taken)
+        return;
     if (chip[MCP2515_PLACE_OPEN] == AWAITS_CODE)
-        add(text, ", %s", instruction_name(byte));
+        tell_code(text, chip, record[1]);
     if (part->name != NULL)
         add(text, ", %s", part->name);
     if (part->has_address)
@@ -133,12 +192,12 @@ static void tell_frame(char *text, const uint8_t *record)
 }
 
 /* Fields mean something only where they are in their range: without refusal 2. */
-static void tell_sound(char *text, const uint8_t *chip, const uint8_t *record)
+static void tell_sound(char *text, const uint8_t *chip, const uint8_t *record, bool taken)
 {
     static const char *const ends[] = {"sent", "arbitration lost", "error"};
     switch (record[0]) {
     case EXCHANGE:
-        tell_exchange(text, chip, record[1]);
+        tell_exchange(text, chip, record, taken);
         break;
     case FRAME:
         tell_frame(text, record);
@@ -153,7 +212,7 @@ static void tell_sound(char *text, const uint8_t *chip, const uint8_t *record)
         add(text, "request pin TX%uRTS %s", record[1], record[2] == 0 ? "low" : "high");
         break;
     default:
-        add(text, "%s", kinds[record[0]]);
+        add(text, "%s%s", kinds[record[0]], speaker_words(record));
     }
 }
 
@@ -165,8 +224,9 @@ static void tell_unsound(char *text, const uint8_t *record)
 
 /* ---- what came of it ---- */
 
-static const char *refusal_reason(uint8_t refusal, uint8_t kind)
+static const char *refusal_reason(uint8_t refusal, const uint8_t *record)
 {
+    uint8_t kind = record[0];
     switch (refusal) {
     case MCP2515_REFUSED_SELECT:
         return kind == SELECT_LOW ? "select is low" : "select is high";
@@ -176,6 +236,8 @@ static const char *refusal_reason(uint8_t refusal, uint8_t kind)
         return "an own frame is in flight";
     case MCP2515_REFUSED_NO_FLIGHT:
         return "no own frame is in flight";
+    case MCP2515_REFUSED_SPEAKER:
+        return panel_speaks(record) ? "the controller has selected" : "the panel has selected";
     }
     return kind == RECOVERY ? "not bus-off" : "in Loopback an own frame is always sent";
 }
@@ -238,9 +300,9 @@ void tell_record(struct words *words, const uint8_t *chip, const uint8_t *record
     if (refusal == MCP2515_REFUSED_FIELD)
         tell_unsound(words->record, record);
     else
-        tell_sound(words->record, chip, record);
+        tell_sound(words->record, chip, record, refusal == 0);
     if (refusal != 0)
-        add(words->outcome, "refused, %s", refusal_reason(refusal, record[0]));
+        add(words->outcome, "refused, %s", refusal_reason(refusal, record));
     else
         tell_answer(words->outcome, chip, record[0], result);
 }

@@ -23,7 +23,7 @@ use Rattle.bus_log.proofs.Steps.{one-step}
 pub record Ran (m n r : List ℕ) (wanted : Bool) (o : Outcome) : Type 0 where
   pub size : length n ≡ imageSize
   pub after : chipOf n ≡ stepOf (chipOf m) r .chip
-  pub spare : drop 149 n ≡ drop 149 m
+  pub spare : drop 150 n ≡ drop 150 m
   pub refusal : o .refusal ≡ stepOf (chipOf m) r .refusal
   pub bytes : answerBytes wanted o ≡ answerBytes wanted (outcome (chipOf m) r)
 

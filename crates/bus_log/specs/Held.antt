@@ -22,4 +22,4 @@ pub record Held (refusal : ℕ) (m n : List ℕ) (c : Chip) : Type 0 where
   pub again : refusal ≡ 0 → isChip n ≡ true
   pub chip : refusal ≡ 0 → chipOf n ≡ c
   -- behind the select line nothing changes: the spare bytes and the version
-  pub spare : drop 149 n ≡ drop 149 m
+  pub spare : drop 150 n ≡ drop 150 m

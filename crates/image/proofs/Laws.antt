@@ -6,7 +6,7 @@ use Prim.Native.Nat.{ℕ, zero, suc, _+_, _*_, _/_, _%_, _-_, _<_, _≤_}
 use native.Mathlib.Omega.{arith}
 use native.Mathlib.Nat.{add-suc, zero-add}
 use lib.Dec.{eqb, lit<}
-use lib.ListN.{length, getD, set, take, drop, replicate, length-set, length-drop}
+use lib.ListN.{length, getD, set, take, drop, length-set, length-drop}
 use lib.Seq.{take-take, length-take-le, length-front, drop-at, take-suc, append-snoc, getD-at, take-append-le, drop-append-le, getD-set-same, getD-set-other, take-set-le, take-set-lt, drop-set-lt, drop-set-add, getD-drop, sets, length-sets, sets-eq, drop-cons, set-at, drop-drop}
 use borrow.Author.Tests.{eqb-true, eqb-false, ne-eqb}
 use Rattle.registers.specs.declared.Mode.{Mode}
@@ -24,7 +24,7 @@ use Rattle.registers.specs.State.{modeNumber, txNumber, withControl, withConfig
 use Rattle.registers.specs.Registers.{regionOf, firstControl, isKept, keptFrom, resetCore}
 use Rattle.registers.proofs.Kept.{kept-length, kept-take, kept-drop, kept-snoc}
 use Rattle.registers.specs.Modes.{requested, settled}
-use Rattle.image.specs.Image.{imageSize, pinsAt, selectAt, versionAt, version, isChip, modeOf, flightOf, flightNumber, requestNumber, decoded, controlOf, encoded, pinsBy, pinsOf, levelByte, coreOf, Became, Acted, Answered}
+use Rattle.image.specs.Image.{imageSize, pinsAt, selectAt, versionAt, version, isChip, modeOf, flightOf, flightNumber, requestNumber, decoded, controlOf, encoded, pinsOf, levelByte, coreOf, Became, Acted, Answered}
 
 -- ---- the enums come back out of their bytes
 pub mode-back : (m : Mode) → modeOf (modeNumber m) ≡ m
@@ -357,8 +357,8 @@ unfolding isChip
 chip-size m e = eqb-true (length m) imageSize (both (eqb (length m) imageSize) (eqb (getD m versionAt 0) version) e .0)
 
 -- an image with the spare bytes of a chip, the version among them, is a chip
-pub chip-again : (m n : List ℕ) → length n ≡ imageSize → drop 149 n ≡ drop 149 m → isChip m ≡ true → isChip n ≡ true
+pub chip-again : (m n : List ℕ) → length n ≡ imageSize → drop 150 n ≡ drop 150 m → isChip m ≡ true → isChip n ≡ true
 unfolding isChip
 chip-again m n size spare e =
-    let same : getD n versionAt 0 ≡ getD m versionAt 0 = sym (getD-drop 149 n 2 0) ∙ ap (λ (l : List ℕ). getD l 2 0) spare ∙ getD-drop 149 m 2 0 in
+    let same : getD n versionAt 0 ≡ getD m versionAt 0 = sym (getD-drop 150 n 1 0) ∙ ap (λ (l : List ℕ). getD l 1 0) spare ∙ getD-drop 150 m 1 0 in
     rw (same, size, both (eqb (length m) imageSize) (eqb (getD m versionAt 0) version) e .1)

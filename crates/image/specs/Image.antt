@@ -30,7 +30,7 @@ imageSize = 152
 abbrev pub pinsAt : ℕ
 pinsAt = 143
 
--- where the select line lies, with the open instruction, its address and its mask
+-- where the select line lies: the open instruction, its address, its mask and who selected
 abbrev pub selectAt : ℕ
 selectAt = 146
 
@@ -39,7 +39,7 @@ abbrev pub versionAt : ℕ
 versionAt = 151
 
 abbrev pub version : ℕ
-version = 2
+version = 3
 
 -- bytes are a chip where they are an image of this version
 unfoldable pub isChip : List ℕ → Bool

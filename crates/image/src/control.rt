@@ -62,7 +62,7 @@ use registers::TxControl;
 const NO_REQUEST: u8 = 7;
 
 // The version of this layout.
-const THIS_VERSION: u8 = 2;
+const THIS_VERSION: u8 = 3;
 
 pub fn mode_of(number: u8) -> Mode
     ensures { λ r. ⌜ r ≡ modeOf number ⌝ }

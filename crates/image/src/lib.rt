@@ -60,12 +60,14 @@ pub const REQUEST: usize = 142;
 // The levels of TX0RTS, TX1RTS and TX2RTS: 0 is low.
 pub const PINS: usize = 143;
 
-// The select line with the open instruction, its address and its mask. The bytes behind them are spare,
-// but the last.
+// The select line: the open instruction, its address, its mask and who selected. Behind them is a spare byte,
+// then the version.
 pub const SELECT: usize = 146;
 
 pub const ADDRESS: usize = 147;
 
 pub const MASK: usize = 148;
+
+pub const SPEAKER: usize = 149;
 
 pub const VERSION: usize = 151;

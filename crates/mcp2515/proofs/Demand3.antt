@@ -1,4 +1,4 @@
--- Demand 3 of the rules, for however many bytes past the last of RESET, RTS and BIT MODIFY are let in. Assumes nothing.
+-- Demand 3 of the rules, for however many bytes past the last of RESET, RTS, BIT MODIFY and an unknown code are let in. Assumes nothing.
 use Prim.Native.Nat.{ℕ}
 use Rattle.mcp2515.specs.Moments.{Demand3For, Demand3}
 use Rattle.mcp2515.proofs.CoreLaws.{facts}

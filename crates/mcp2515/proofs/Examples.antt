@@ -245,3 +245,18 @@ flying-kept = (refl, refl)
 power-on-levels : (holds (powerOn .core) 0x0D ≡ 0x38) × (reads (powerOn .core) 0x0D ≡ 0x38)
 unfolding tidied
 power-on-levels = (refl, refl)
+
+-- ---- a session of the panel with 87h, which it may not give: two frames inside, and an exchange of the controller that is refused
+abbrev panel : ℕ → ℕ → List ℕ
+panel k b = k ∷ b ∷ 1 ∷ replicate 13 0
+
+abbrev barred : List (List ℕ)
+barred = normal ++ (panel 0 0 ∷ frame 0xAA ∷ panel 1 0x87 ∷ byte 0x02 ∷ frame 0xBB ∷ panel 2 0 ∷ [])
+
+-- it counts as an unknown code, with its moment at select high: both frames go before select low, the refused record keeps its place
+barred-tidied : Tidied barred
+    (normal ++ (frame 0xAA ∷ frame 0xBB ∷ panel 0 0 ∷ panel 1 0x87 ∷ byte 0x02 ∷ panel 2 0 ∷ []))
+    (wrote ++ (heard 1 ∷ heard 3 ∷ ok 0 ∷ ok 0 ∷ record { refusal = 18; answer = 0; matched = 0 } ∷ ok 0 ∷ []))
+    (rested (record { canctrl = 0; caninte = 0; canintf = 0x21; eflg = 0x40 }) 0 0 0x60 1 0xAA)
+unfolding tidied
+barred-tidied = record { in-order = refl; told-before = refl; told-after = refl; end-before = refl; end-after = refl }

@@ -13,5 +13,7 @@ pub mod Session
 pub mod Demand3
 pub mod Order
 pub mod Reached
+pub mod Panel
+pub mod Looking
 pub mod Cases
 pub mod Examples

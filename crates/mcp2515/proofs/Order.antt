@@ -4,7 +4,7 @@ use mathlib.Core.List.{List, [], _∷_, _++_, append-assoc, append-nil, cons-ne-
 use mathlib.Core.Option.{Option, none, some}
 use mathlib.Core.Path.{_≡_, refl, sym, ap, ap₂, subst, _∙_}
 use Prim.Native.Nat.{ℕ, zero, suc}
-use Rattle.mcp2515.specs.Moments.{Role, event, low, exchange, high, other, isEventRole, isLow, isExchange, isHigh, Entry, roleIn, listed, events, others, bytes, before, after, placed, session, outside, inside, tidyFrom, tidy, SameOrder, Still, Apart, TidyKept, Inner, TidyIs}
+use Rattle.mcp2515.specs.Moments.{Role, event, low, exchange, high, other, isEventRole, isLow, isExchange, isHigh, Entry, roleIn, listed, events, others, before, after, placed, session, outside, inside, tidyFrom, tidy, SameOrder, Still, Apart, TidyKept, Inner, TidyIs}
 
 -- ---- events and others are two halves of a list
 -- Both go by the role of the head.
@@ -164,7 +164,7 @@ module _ (extra : ℕ) where
       in-it : Kept (tidyFrom extra outside t) t → Within → (l : Entry) (s : List Entry) → isEventRole (roleIn l) ≡ false
           → (v : Bool) → isHigh (roleIn x) ≡ v → Kept (tidyFrom extra (inside l s) (x ∷ t)) (l ∷ (s ++ (x ∷ t)))
       in-it o w l s el true e =
-          let p = placed-kept (listed extra (l .met) s) l s x el (high-no-event (roleIn x) e) in
+          let p = placed-kept (listed extra l s) l s x el (high-no-event (roleIn x) e) in
           rw e (subst (λ (z : List Entry). Kept (session extra l s x ++ tidyFrom extra outside t) z) (regroup l s x t)
           (kept-append (session extra l s x) (l ∷ (s ++ (x ∷ []))) (tidyFrom extra outside t) t p o))
       in-it o w l s el false e =
@@ -200,8 +200,8 @@ module _ (extra : ℕ) where
       in-it : Beyond → Within → (l : Entry) (s : List Entry) → Apart extra (inside l s) (x ∷ t) → (v : Bool) → isHigh (roleIn x) ≡ v
           → tidyFrom extra (inside l s) (x ∷ t) ≡ l ∷ (s ++ (x ∷ t))
       in-it o w l s a true e =
-          let p : Still (listed extra (l .met) s) s × Apart extra outside t = rw e at a in
-          rw (e, placed-same (listed extra (l .met) s) l s x (p .0), o (p .1)) (regroup l s x t)
+          let p : Still (listed extra l s) s × Apart extra outside t = rw e at a in
+          rw (e, placed-same (listed extra l s) l s x (p .0), o (p .1)) (regroup l s x t)
       in-it o w l s a false e = rw (e, w l (s ++ (x ∷ [])) (rw e at a)) (regroup l s x t)
 
   pub tidy-kept : TidyKept extra

@@ -66,11 +66,14 @@ module _ (P : Core → Type 0) (event : (k : Core) (r : List ℕ) → P k → P 
   run c (r ∷ rs) p = run (nextChip c r) rs (step-core P c r (event (c .core) r p) (act (asked (c .select) r) (c .core) p))
 
 -- ---- mode requests
-pub settled-reached : SettledReached
+pub good-reached : (rs : List (List ℕ)) → Good (chipAfter powerOn rs .core)
 unfolding powerOn
-settled-reached rs = ap (λ (k : Core). k .control) (run Good good-event good-acted powerOn rs good-power)
+good-reached rs = run Good good-event good-acted powerOn rs good-power
 
-stays : (q : Request) (c : Control) → c .state .request ≡ q → settled c ≡ c → isPending q ≡ true → freeToChange c ≡ false
+pub settled-reached : SettledReached
+settled-reached rs = ap (λ (k : Core). k .control) (good-reached rs)
+
+pub stays : (q : Request) (c : Control) → c .state .request ≡ q → settled c ≡ c → isPending q ≡ true → freeToChange c ≡ false
 unfolding settled entered
 stays Nothing c e g p = clash (sym p)
 stays (Wanted m) c e g p = go (freeToChange c) refl

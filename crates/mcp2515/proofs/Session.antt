@@ -5,10 +5,10 @@ use mathlib.Core.Path.{_≡_, refl, sym, ap, subst, _∙_}
 use Prim.Native.Nat.{ℕ, zero, suc, _+_, _/_, _%_, _≤_, _<_}
 use native.Mathlib.Omega.{arith}
 use lib.Dec.{eqb}
-use borrow.Author.Tests.{not-true}
+use borrow.Author.Tests.{not-true, lt-ltb}
 use Rattle.records.specs.declared.Kind.{Kind}
 use Rattle.records.specs.declared.Kind.the-variants.{SelectLow, Exchange, SelectHigh, FrameHeard, BusIdle, FrameEnds, ReceiveError, Recovery, PinLevel, Unknown}
-use Rattle.records.specs.Records.{byteAt, kindOf, isEvent, soundOf}
+use Rattle.records.specs.Records.{refusedSpeaker, byteAt, kindOf, isEvent, soundOf}
 use Rattle.registers.specs.declared.RxBuffer.{RxBuffer}
 use Rattle.registers.specs.declared.RxBuffer.the-variants.{Rxb0, Rxb1}
 use Rattle.registers.specs.declared.TxBuffer.{TxBuffer}
@@ -16,6 +16,8 @@ use Rattle.registers.specs.declared.TxBuffer.the-variants.{Txb0, Txb1, Txb2}
 use Rattle.registers.specs.declared.Core.{Core}
 use Rattle.registers.specs.State.{levelOf}
 use Rattle.controller.specs.Events.{fallsEnabled, eventOf}
+use Rattle.spi.specs.declared.Speaker.{Speaker}
+use Rattle.spi.specs.declared.Speaker.the-variants.{Controller, Panel}
 use Rattle.spi.specs.declared.Command.{Command}
 use Rattle.spi.specs.declared.Command.the-variants.{Reset, Read, Write, BitModify, ReadRxBuffer, LoadTxBuffer, Rts, ReadStatus, RxStatus, UnknownCode}
 use Rattle.spi.specs.declared.Instruction.{Instruction}
@@ -26,13 +28,13 @@ use Rattle.spi.specs.declared.Select.the-variants.{Raised, Lowered}
 use Rattle.spi.specs.declared.Act.{Act}
 use Rattle.spi.specs.declared.Act.the-variants.{Rest, ResetAll, Fetch, Store, Modify, RequestToSend, ClearFlag, FetchStatus, FetchRxStatus, Refuse}
 use Rattle.mcp2515.specs.declared.Chip.{Chip}
-use Rattle.spi.specs.Instructions.{bufferCommand, commandOf, firstAct, opened, rising, exchangeAct, exchangeNext, highAct, replyTo, acted, refusalOf}
+use Rattle.spi.specs.Instructions.{bufferCommand, commandOf, sameSpeaker, panelReads, panelLoads, permitted, commandBy, inMessage, panelGoesOn, goesOn, firstAct, opened, rising, exchangeAct, exchangeNext, actBy, nextBy, highAct, replyTo, acted, refusalOf}
 use Rattle.mcp2515.specs.declared.Stepped.{Stepped}
 use Rattle.records.specs.declared.Outcome.{Outcome}
-use Rattle.mcp2515.specs.Step.{powerOn, askedBy, asked, turnedBy, turned, spiStep, eventStep, stepOf, nextChip, outcomeIn, outcome}
+use Rattle.mcp2515.specs.Step.{powerOn, speakerIn, askedBy, asked, turnedBy, turned, spiStep, eventStep, stepOf, nextChip, outcomeIn, outcome}
 use Rattle.mcp2515.specs.Moments.{Role, event, low, exchange, high, other, acceptedRole, roleOf, Entry, bytesFrom, most, momentOf, isFree, falls, noFall, allowed, Demand3For}
 use Rattle.mcp2515.proofs.CoreFacts.{Good, rxBase, txBase, RxByte, TxByte, asks, CoreFacts}
-use Rattle.spi.proofs.Turns.{exchange-accepted, high-told}
+use Rattle.spi.proofs.Turns.{by-cond, act-accepted, high-told}
 use Rattle.mcp2515.proofs.Swap.{Stage, fresh, sofar, isOther, Event, roleAt, named, entry, Swap, Laws, demand-3-by}
 
 clash : {A : Type 0} → true ≡ false → A
@@ -86,13 +88,13 @@ kinds Unknown true e = clash (sym e)
 kinds Unknown false e = clash (sym e)
 
 -- An accepted record of the SPI side.
-record Accepted (c : Chip) (r : List ℕ) (κ : Kind) : Type 0 where
-  kind : kindOf r ≡ κ
-  sound : soundOf r ≡ true
-  plain : isEvent (kindOf r) ≡ false
-  taken : eqb (refusalOf (askedBy κ (c .select) (byteAt r 1))) 0 ≡ true
+pub record Accepted (c : Chip) (r : List ℕ) (κ : Kind) : Type 0 where
+  pub kind : kindOf r ≡ κ
+  pub sound : soundOf r ≡ true
+  pub plain : isEvent (kindOf r) ≡ false
+  pub taken : eqb (refusalOf (askedBy κ (c .select) (speakerIn r) (byteAt r 1))) 0 ≡ true
 
-accepted-as : (c : Chip) (r : List ℕ) (ρ : Role) → isSession ρ ≡ true → roleAt c r ≡ ρ → Accepted c r (kindFor ρ)
+pub accepted-as : (c : Chip) (r : List ℕ) (ρ : Role) → isSession ρ ≡ true → roleAt c r ≡ ρ → Accepted c r (kindFor ρ)
 unfolding roleOf stepOf asked
 accepted-as c r ρ s e = go (kinds (kindOf r) (eqb (outcome c r .refusal) 0) (rw e s)) (soundOf r) refl
   where
@@ -176,77 +178,96 @@ come-first RxStatus = refl
 come-first (ReadRxBuffer n a) = ap (λ (z : ℕ). ReadingBuffer n z) (omega arith)
 come-first (LoadTxBuffer n a) = ap (λ (z : ℕ). Writing z) (omega arith)
 
-calm-first : (m : Command) (k : Core) (es : List Entry) → 0 < momentOf m → CalmAct k (firstAct m) es
-calm-first Reset k es h = absurd (omega arith)
-calm-first (Rts m) k es h = absurd (omega arith)
-calm-first UnknownCode k es h = tt
-calm-first BitModify k es h = tt
-calm-first Read k es h = tt
-calm-first Write k es h = tt
-calm-first ReadStatus k es h = tt
-calm-first RxStatus k es h = tt
-calm-first (ReadRxBuffer n a) k es h = tt
-calm-first (LoadTxBuffer n a) k es h = tt
+calm-first : (extra : ℕ) (m : Command) (k : Core) (es : List Entry) → 0 < momentOf extra m → CalmAct k (firstAct m) es
+calm-first extra Reset k es h = absurd (omega arith)
+calm-first extra (Rts m) k es h = absurd (omega arith)
+calm-first extra UnknownCode k es h = tt
+calm-first extra BitModify k es h = tt
+calm-first extra Read k es h = tt
+calm-first extra Write k es h = tt
+calm-first extra ReadStatus k es h = tt
+calm-first extra RxStatus k es h = tt
+calm-first extra (ReadRxBuffer n a) k es h = tt
+calm-first extra (LoadTxBuffer n a) k es h = tt
 
 -- From its moment on a session is no READ RX BUFFER, and its select high asks nothing.
-high-still : (extra : ℕ) (m : Command) (j : ℕ) (i : Instruction) → momentOf m ≤ j → j < most extra m → Come m j i → isStill (highAct i) ≡ true
-high-still extra Reset j i h l c = rw c
-high-still extra (Rts m) j i h l c = rw c
-high-still extra UnknownCode j i h l c = rw c
-high-still extra BitModify zero i h l c = rw c
-high-still extra BitModify (suc zero) i h l c = rw (c .1)
-high-still extra BitModify (suc (suc zero)) i h l c = rw (c .2)
-high-still extra BitModify (suc (suc (suc j))) i h l c = rw c
-high-still extra Read zero i h l c = rw c
-high-still extra Read (suc j) i h l c = rw (c .1)
-high-still extra Write zero i h l c = rw c
-high-still extra Write (suc j) i h l c = rw (c .1)
-high-still extra ReadStatus j i h l c = rw c
-high-still extra RxStatus j i h l c = rw c
-high-still extra (ReadRxBuffer n a) j i h l c = absurd (omega arith)
-high-still extra (LoadTxBuffer n a) j i h l c = absurd (omega arith)
+high-still : (p : Speaker) (extra : ℕ) (m : Command) (j : ℕ) (i : Instruction) → momentOf extra m ≤ j → j < most extra m → Come m j i → isStill (highAct p i) ≡ true
+high-still p extra Reset j i h l c = rw c
+high-still p extra (Rts m) j i h l c = rw c
+high-still p extra UnknownCode j i h l c = rw c
+high-still p extra BitModify zero i h l c = rw c
+high-still p extra BitModify (suc zero) i h l c = rw (c .1)
+high-still p extra BitModify (suc (suc zero)) i h l c = rw (c .2)
+high-still p extra BitModify (suc (suc (suc j))) i h l c = rw c
+high-still p extra Read zero i h l c = rw c
+high-still p extra Read (suc j) i h l c = rw (c .1)
+high-still p extra Write zero i h l c = rw c
+high-still p extra Write (suc j) i h l c = rw (c .1)
+high-still p extra ReadStatus j i h l c = rw c
+high-still p extra RxStatus j i h l c = rw c
+high-still p extra (ReadRxBuffer n a) j i h l c = absurd (omega arith)
+high-still p extra (LoadTxBuffer n a) j i h l c = absurd (omega arith)
 
--- ---- the addresses that a listed buffer instruction reaches
-abbrev Reach : Command → Type 0
-Reach Reset = Unit {0}
-Reach (Rts m) = Unit {0}
-Reach UnknownCode = Unit {0}
-Reach BitModify = Unit {0}
-Reach Read = Unit {0}
-Reach Write = Unit {0}
-Reach ReadStatus = Unit {0}
-Reach RxStatus = Unit {0}
-Reach (ReadRxBuffer n a) = (rxBase n + 1 ≤ a) × (a + bytesFrom a ≤ rxBase n + 14)
-Reach (LoadTxBuffer n a) = (txBase n + 1 ≤ a) × (a + bytesFrom a ≤ txBase n + 14)
+-- ---- what a listed instruction reaches, and whether it is the speaker's own
+-- the panel may what this test says, the controller all
+abbrev May : Speaker → Bool → Type 0
+May Controller b = Unit {0}
+May Panel b = b ≡ true
 
-or-else : (P : Command → Type 0) (b : Bool) {m n : Command} → P m → P n → P (cond b m n)
-or-else P true p q = p
-or-else P false p q = q
+abbrev Reach : Speaker → Command → Type 0
+Reach p Reset = May p false
+Reach p (Rts m) = Unit {0}
+Reach p UnknownCode = Unit {0}
+Reach p BitModify = May p false
+Reach p Read = Unit {0}
+Reach p Write = May p false
+Reach p ReadStatus = Unit {0}
+Reach p RxStatus = Unit {0}
+Reach p (ReadRxBuffer n a) = (rxBase n + 1 ≤ a) × (a + bytesFrom a ≤ rxBase n + 14) × May p (panelReads n)
+Reach p (LoadTxBuffer n a) = (txBase n + 1 ≤ a) × (a + bytesFrom a ≤ txBase n + 14) × May p (panelLoads n)
 
-buffer-reach : (b : ℕ) → Reach (bufferCommand b)
+-- of a command as the controller gives it, and as the panel does
+buffer-by : (P : Command → Type 0) → P (ReadRxBuffer Rxb0 0x61) → P (ReadRxBuffer Rxb0 0x66) → P (ReadRxBuffer Rxb1 0x71)
+    → P (ReadRxBuffer Rxb1 0x76) → P (LoadTxBuffer Txb0 0x31) → P (LoadTxBuffer Txb0 0x36) → P (LoadTxBuffer Txb1 0x41)
+    → P (LoadTxBuffer Txb1 0x46) → P (LoadTxBuffer Txb2 0x51) → P (LoadTxBuffer Txb2 0x56) → P UnknownCode → (b : ℕ) → P (bufferCommand b)
 unfolding bufferCommand
-buffer-reach b =
-    or-else Reach (eqb b 0x90) (omega arith)
-    (or-else Reach (eqb b 0x92) (omega arith)
-    (or-else Reach (eqb b 0x94) (omega arith)
-    (or-else Reach (eqb b 0x96) (omega arith)
-    (or-else Reach (eqb b 0x40) (omega arith)
-    (or-else Reach (eqb b 0x41) (omega arith)
-    (or-else Reach (eqb b 0x42) (omega arith)
-    (or-else Reach (eqb b 0x43) (omega arith)
-    (or-else Reach (eqb b 0x44) (omega arith)
-    (or-else Reach (eqb b 0x45) (omega arith) tt)))))))))
+buffer-by P r0 d0 r1 d1 t0 e0 t1 e1 t2 e2 u b =
+    by-cond P (eqb b 0x90) r0
+    (by-cond P (eqb b 0x92) d0
+    (by-cond P (eqb b 0x94) r1
+    (by-cond P (eqb b 0x96) d1
+    (by-cond P (eqb b 0x40) t0
+    (by-cond P (eqb b 0x41) e0
+    (by-cond P (eqb b 0x42) t1
+    (by-cond P (eqb b 0x43) e1
+    (by-cond P (eqb b 0x44) t2
+    (by-cond P (eqb b 0x45) e2 u)))))))))
 
-reach : (b : ℕ) → Reach (commandOf b)
+command-by : (P : Command → Type 0) → ((m : ℕ) → P (Rts m)) → P Reset → P Read → P Write → P BitModify → P ReadStatus → P RxStatus
+    → ((b : ℕ) → P (bufferCommand b)) → (b : ℕ) → P (commandOf b)
 unfolding commandOf
-reach b =
-    or-else Reach (eqb (b / 8) 16) tt
-    (or-else Reach (eqb b 0xC0) tt
-    (or-else Reach (eqb b 0x03) tt
-    (or-else Reach (eqb b 0x02) tt
-    (or-else Reach (eqb b 0x05) tt
-    (or-else Reach (eqb b 0xA0) tt
-    (or-else Reach (eqb b 0xB0) tt (buffer-reach b)))))))
+command-by P rts reset read write modify status received buffer b =
+    by-cond P (eqb (b / 8) 16) (rts (b % 8))
+    (by-cond P (eqb b 0xC0) reset
+    (by-cond P (eqb b 0x03) read
+    (by-cond P (eqb b 0x02) write
+    (by-cond P (eqb b 0x05) modify
+    (by-cond P (eqb b 0xA0) status
+    (by-cond P (eqb b 0xB0) received (buffer b)))))))
+
+abbrev Permitted : Command → Type 0
+Permitted m = Reach Panel (permitted m)
+
+reach : (p : Speaker) (b : ℕ) → Reach p (commandBy p b)
+reach Controller b =
+    command-by (Reach Controller) (λ m. tt) tt tt tt tt tt tt
+    (buffer-by (Reach Controller) (omega arith, omega arith, tt) (omega arith, omega arith, tt) (omega arith, omega arith, tt) (omega arith, omega arith, tt)
+    (omega arith, omega arith, tt) (omega arith, omega arith, tt) (omega arith, omega arith, tt) (omega arith, omega arith, tt)
+    (omega arith, omega arith, tt) (omega arith, omega arith, tt) tt) b
+reach Panel b =
+    command-by Permitted (λ m. by-cond (Reach Panel) (eqb m 4) tt tt) tt tt tt tt tt tt
+    (buffer-by Permitted tt tt (omega arith, omega arith, refl) (omega arith, omega arith, refl) tt tt tt tt
+    (omega arith, omega arith, refl) (omega arith, omega arith, refl) tt) b
 
 -- A buffer lies below 80h, so that its addresses count on without a wrap.
 rx-low : (n : RxBuffer) → rxBase n ≤ 0x70
@@ -261,6 +282,37 @@ tx-low Txb2 = omega arith
 rises : (a : ℕ) (j : ℕ) → a + j < 127 → rising (a + j) ≡ a + suc j
 rises a j h = omega arith
 
+-- As far as it is listed, an instruction of either speaker goes on.
+in-message : (c a : ℕ) → c + 14 ≤ 128 → c < a → a < c + 14 → inMessage c a ≡ true
+in-message c a h l u = let e : a % 128 ≡ a = omega arith in rw (e, lt-ltb c a l, lt-ltb a (c + 14) u) refl
+
+goes-reading : (n : RxBuffer) (a : ℕ) → RxByte n a → panelReads n ≡ true → panelGoesOn (ReadingBuffer n a) ≡ true
+goes-reading Rxb0 a t m = clash (sym m)
+goes-reading Rxb1 a t m = in-message 0x70 a (omega arith) (omega (arith, t .from)) (omega (arith, t .to))
+
+goes-writing : (n : TxBuffer) (a : ℕ) → TxByte n a → panelLoads n ≡ true → panelGoesOn (Writing a) ≡ true
+goes-writing Txb0 a t m = clash (sym m)
+goes-writing Txb1 a t m = clash (sym m)
+goes-writing Txb2 a t m = in-message 0x50 a (omega arith) (omega (arith, t .from)) (omega (arith, t .to))
+
+goes : (p : Speaker) (extra : ℕ) (m : Command) (j : ℕ) (i : Instruction) → Reach p m → suc j < most extra m → Come m j i → goesOn p i ≡ true
+goes Controller extra m j i r l c = refl
+goes Panel extra Reset j i r l c = clash (sym r)
+goes Panel extra (Rts m) j i r l c = rw c refl
+goes Panel extra UnknownCode j i r l c = rw c refl
+goes Panel extra BitModify j i r l c = clash (sym r)
+goes Panel extra Read zero i r l c = rw c refl
+goes Panel extra Read (suc j) i r l c = rw (c .1) refl
+goes Panel extra Write j i r l c = clash (sym r)
+goes Panel extra ReadStatus j i r l c = rw c refl
+goes Panel extra RxStatus j i r l c = rw c refl
+goes Panel extra (ReadRxBuffer n a) j i r l c = rw c (goes-reading n (a + j) (record { from = omega arith; to = omega arith }) (r .2))
+goes Panel extra (LoadTxBuffer n a) j i r l c = rw c (goes-writing n (a + j) (record { from = omega arith; to = omega arith }) (r .2))
+
+first-goes : (p : Speaker) → goesOn p First ≡ true
+first-goes Controller = refl
+first-goes Panel = refl
+
 -- ---- the steps of the chip
 spi-step : (c : Chip) (r : List ℕ) → isEvent (kindOf r) ≡ false → stepOf c r ≡ spiStep c r
 unfolding stepOf
@@ -270,27 +322,27 @@ event-step : (c : Chip) (e : List ℕ) → Event e → stepOf c e ≡ eventStep 
 unfolding stepOf
 event-step c e v = rw v
 
-spi-next : (c : Chip) (r : List ℕ) → isEvent (kindOf r) ≡ false → nextChip c r ≡ spiStep c r .chip
+pub spi-next : (c : Chip) (r : List ℕ) → isEvent (kindOf r) ≡ false → nextChip c r ≡ spiStep c r .chip
 spi-next c r e = ap (λ (s : Stepped). s .chip) (spi-step c r e)
 
 spi-out : (c : Chip) (r : List ℕ) → isEvent (kindOf r) ≡ false → outcome c r ≡ outcomeIn (spiStep c r)
 spi-out c r e = ap outcomeIn (spi-step c r e)
 
-event-next : (c : Chip) (e : List ℕ) → Event e → nextChip c e ≡ eventStep c e .chip
+pub event-next : (c : Chip) (e : List ℕ) → Event e → nextChip c e ≡ eventStep c e .chip
 event-next c e v = ap (λ (s : Stepped). s .chip) (event-step c e v)
 
 event-out : (c : Chip) (e : List ℕ) → Event e → outcome c e ≡ outcomeIn (eventStep c e)
 event-out c e v = ap outcomeIn (event-step c e v)
 
-abbrev chip : Core → Instruction → Chip
-chip k i = record { core = k; select = Lowered i }
+abbrev pub chip : Core → Speaker → Instruction → Chip
+chip k p i = record { core = k; select = Lowered p i }
 
 -- The record is no event, and its act is calm, or still.
 record Calms (c : Chip) (r : List ℕ) (es : List Entry) : Type 0 where
   spi : isEvent (kindOf r) ≡ false
   calm : CalmAct (c .core) (asked (c .select) r) es
 
-record Quiets (c : Chip) (r : List ℕ) : Type 0 where
+pub record Quiets (c : Chip) (r : List ℕ) : Type 0 where
   spi : isEvent (kindOf r) ≡ false
   still : isStill (asked (c .select) r) ≡ true
 
@@ -302,39 +354,79 @@ quiets-back c r e v q =
     record { spi = q .spi; still = subst (λ (d : Chip). isStill (asked (d .select) r) ≡ true) (event-next c e v) (q .still) }
 
 -- What an accepted record asks, and the chip after it, where the select is s.
-accepted-asks : (c : Chip) (r : List ℕ) (κ : Kind) (s : Select) → Accepted c r κ → c .select ≡ s → asked (c .select) r ≡ askedBy κ s (byteAt r 1)
+accepted-asks : (c : Chip) (r : List ℕ) (κ : Kind) (s : Select) → Accepted c r κ → c .select ≡ s → asked (c .select) r ≡ askedBy κ s (speakerIn r) (byteAt r 1)
 unfolding asked
 accepted-asks c r κ s a e = rw (a .sound, a .kind, e)
 
-accepted-turns : (c : Chip) (r : List ℕ) (κ : Kind) (s : Select) → Accepted c r κ → c .select ≡ s → turned (c .select) r ≡ turnedBy κ s (byteAt r 1)
+accepted-turns : (c : Chip) (r : List ℕ) (κ : Kind) (s : Select) → Accepted c r κ → c .select ≡ s → turned (c .select) r ≡ turnedBy κ s (speakerIn r) (byteAt r 1)
 unfolding turned
 accepted-turns c r κ s a e = rw (a .sound, a .kind, e)
 
-accepted-next : (c : Chip) (r : List ℕ) (κ : Kind) (s : Select) → Accepted c r κ → c .select ≡ s
-    → nextChip c r ≡ record { core = acted (askedBy κ s (byteAt r 1)) (c .core); select = turnedBy κ s (byteAt r 1) }
-accepted-next c r κ s a e = spi-next c r (a .plain) ∙ rw (accepted-asks c r κ s a e, accepted-turns c r κ s a e)
+-- whoever exchanges or raises the select has lowered it
+same-of : (g : Bool) (a : Act) → eqb (refusalOf (cond g a (Refuse refusedSpeaker))) 0 ≡ true → g ≡ true
+same-of true a h = refl
+same-of false a h = h
+
+-- an exchange and the instruction after it
+exchange-same : (c : Chip) (r : List ℕ) (p : Speaker) (i : Instruction) → Accepted c r Exchange → c .select ≡ Lowered p i → sameSpeaker p (speakerIn r) ≡ true
+exchange-same c r p i a e = same-of (sameSpeaker p (speakerIn r)) (actBy p i (byteAt r 1)) (rw e at (a .taken))
+
+taken-asks : (c : Chip) (r : List ℕ) (p : Speaker) (i : Instruction) → Accepted c r Exchange → c .select ≡ Lowered p i → asked (c .select) r ≡ actBy p i (byteAt r 1)
+taken-asks c r p i a e = accepted-asks c r Exchange (Lowered p i) a e ∙ rw (exchange-same c r p i a e)
+
+taken-turns : (c : Chip) (r : List ℕ) (p : Speaker) (i : Instruction) → Accepted c r Exchange → c .select ≡ Lowered p i
+    → turned (c .select) r ≡ Lowered p (nextBy p i (byteAt r 1))
+taken-turns c r p i a e = accepted-turns c r Exchange (Lowered p i) a e ∙ rw (exchange-same c r p i a e)
+
+pub taken-next : (c : Chip) (r : List ℕ) (p : Speaker) (i : Instruction) → Accepted c r Exchange → c .select ≡ Lowered p i
+    → nextChip c r ≡ chip (acted (actBy p i (byteAt r 1)) (c .core)) p (nextBy p i (byteAt r 1))
+taken-next c r p i a e = spi-next c r (a .plain) ∙ rw (taken-asks c r p i a e, taken-turns c r p i a e)
+
+-- .. where it goes on
+exchange-asks : (c : Chip) (r : List ℕ) (p : Speaker) (i : Instruction) → Accepted c r Exchange → c .select ≡ Lowered p i → goesOn p i ≡ true
+    → asked (c .select) r ≡ exchangeAct (commandBy p (byteAt r 1)) i (byteAt r 1)
+exchange-asks c r p i a e g = taken-asks c r p i a e ∙ rw g
+
+exchange-next : (c : Chip) (r : List ℕ) (p : Speaker) (i : Instruction) → Accepted c r Exchange → c .select ≡ Lowered p i → goesOn p i ≡ true
+    → nextChip c r ≡ chip (acted (exchangeAct (commandBy p (byteAt r 1)) i (byteAt r 1)) (c .core)) p (exchangeNext (commandBy p (byteAt r 1)) i (byteAt r 1))
+exchange-next c r p i a e g = taken-next c r p i a e ∙ rw g
+
+high-asks : (c : Chip) (r : List ℕ) (p : Speaker) (i : Instruction) → Accepted c r SelectHigh → c .select ≡ Lowered p i → asked (c .select) r ≡ highAct p i
+high-asks c r p i a e =
+    accepted-asks c r SelectHigh (Lowered p i) a e ∙ rw (same-of (sameSpeaker p (speakerIn r)) (highAct p i) (rw e at (a .taken)))
+
+pub low-next : (c : Chip) (r : List ℕ) → Accepted c r SelectLow → c .select ≡ Raised → nextChip c r ≡ chip (acted Rest (c .core)) (speakerIn r) First
+low-next c r a e = spi-next c r (a .plain) ∙ rw (accepted-asks c r SelectLow Raised a e, accepted-turns c r SelectLow Raised a e)
 
 -- In a session, a record that is neither an event, an accepted exchange nor the accepted select high is refused.
-other-step : (k : Core) (i : Instruction) (r : List ℕ) → isOther (roleAt (chip k i) r) ≡ true
-    → (nextChip (chip k i) r ≡ chip k i) × Quiets (chip k i) r
+pub other-step : (k : Core) (p : Speaker) (i : Instruction) (r : List ℕ) → isOther (roleAt (chip k p i) r) ≡ true
+    → (nextChip (chip k p i) r ≡ chip k p i) × Quiets (chip k p i) r
 unfolding roleOf asked turned
-other-step k i r h = go (kindOf r) refl (soundOf r) refl
+other-step k p i r h = go (kindOf r) refl (soundOf r) refl
   where
     Goal : Type 0
-    Goal = (nextChip (chip k i) r ≡ chip k i) × Quiets (chip k i) r
+    Goal = (nextChip (chip k p i) r ≡ chip k p i) × Quiets (chip k p i) r
 
-    refused : isEvent (kindOf r) ≡ false → (n : ℕ) → asked (Lowered i) r ≡ Refuse n → turned (Lowered i) r ≡ Lowered i → Goal
-    refused e n a t = (spi-next (chip k i) r e ∙ rw (a, t), record { spi = e; still = rw a })
+    refused : isEvent (kindOf r) ≡ false → (n : ℕ) → asked (Lowered p i) r ≡ Refuse n → turned (Lowered p i) r ≡ Lowered p i → Goal
+    refused e n a t = (spi-next (chip k p i) r e ∙ rw (a, t), record { spi = e; still = rw a })
 
-    taken : isEvent (kindOf r) ≡ false → refusalOf (asked (Lowered i) r) ≡ 0 → isOther (acceptedRole (kindOf r)) ≡ true
-    taken e z = rw (e, ap (λ (o : Outcome). o .refusal) (spi-out (chip k i) r e) ∙ z) at h
+    taken : isEvent (kindOf r) ≡ false → refusalOf (asked (Lowered p i) r) ≡ 0 → isOther (acceptedRole (kindOf r)) ≡ true
+    taken e z = rw (e, ap (λ (o : Outcome). o .refusal) (spi-out (chip k p i) r e) ∙ z) at h
+
+    exchanged : kindOf r ≡ Exchange → soundOf r ≡ true → (g : Bool) → sameSpeaker p (speakerIn r) ≡ g → Goal
+    exchanged e s true g = clash (sym (rw e at (taken (rw e) (rw (s, e, g) (act-accepted p i (byteAt r 1))))))
+    exchanged e s false g = refused (rw e) refusedSpeaker (rw (s, e, g)) (rw (s, e, g))
+
+    raised : kindOf r ≡ SelectHigh → soundOf r ≡ true → (g : Bool) → sameSpeaker p (speakerIn r) ≡ g → Goal
+    raised e s true g = clash (sym (rw e at (taken (rw e) (rw (s, e, g) (high-told p i k .0)))))
+    raised e s false g = refused (rw e) refusedSpeaker (rw (s, e, g)) (rw (s, e, g))
 
     go : (κ : Kind) → kindOf r ≡ κ → (b : Bool) → soundOf r ≡ b → Goal
     go SelectLow e true s = refused (rw e) 1 (rw (s, e)) (rw (s, e))
     go SelectLow e false s = refused (rw e) 2 (rw s) (rw s)
-    go Exchange e true s = clash (sym (rw e at (taken (rw e) (rw (s, e) (exchange-accepted i (byteAt r 1))))))
+    go Exchange e true s = exchanged e s (sameSpeaker p (speakerIn r)) refl
     go Exchange e false s = refused (rw e) 2 (rw s) (rw s)
-    go SelectHigh e true s = clash (sym (rw e at (taken (rw e) (rw (s, e) (high-told i k .0)))))
+    go SelectHigh e true s = raised e s (sameSpeaker p (speakerIn r)) refl
     go SelectHigh e false s = refused (rw e) 2 (rw s) (rw s)
     go FrameHeard e b s = clash (sym (rw e at h))
     go BusIdle e b s = clash (sym (rw e at h))
@@ -527,36 +619,36 @@ module _ (F : CoreFacts) where
             (subst (λ (j : Core). Unasked n j es) (store-event k (e .rec) n a v g free t z) (u .1)),
       )
 
-  -- A later exchange.
-  record More (m : Command) (j : ℕ) (k : Core) (s : List Entry) (i : Instruction) (x : ℕ) : Type 0 where
-    come : Come m (suc j) (exchangeNext i x)
-    keeps : allowed (acted (exchangeAct i x) k) s m ≡ true
-    calm : suc j < momentOf m → (es : List Entry) → Spares m (acted (exchangeAct i x) k) es → CalmAct k (exchangeAct i x) es × Spares m k es
-    still : momentOf m ≤ j → isStill (exchangeAct i x) ≡ true
+  -- A later exchange, whatever command y its byte would name.
+  record More (extra : ℕ) (y m : Command) (j : ℕ) (k : Core) (s : List Entry) (i : Instruction) (x : ℕ) : Type 0 where
+    come : Come m (suc j) (exchangeNext y i x)
+    keeps : allowed (acted (exchangeAct y i x) k) s m ≡ true
+    calm : suc j < momentOf extra m → (es : List Entry) → Spares m (acted (exchangeAct y i x) k) es → CalmAct k (exchangeAct y i x) es × Spares m k es
+    still : momentOf extra m ≤ j → isStill (exchangeAct y i x) ≡ true
 
-  more : (extra : ℕ) (m : Command) (j : ℕ) (k : Core) (s : List Entry) (i : Instruction) (x : ℕ) → Good k → Reach m → suc j < most extra m
-      → Come m j i → allowed k s m ≡ true → More m j k s i x
-  more extra Reset j k s i x g h l c p = rw c (record { come = refl; keeps = refl; calm = λ _ es t. (tt, tt); still = λ _. refl })
-  more extra (Rts m) j k s i x g h l c p = rw c (record { come = refl; keeps = refl; calm = λ _ es t. (tt, tt); still = λ _. refl })
-  more extra UnknownCode j k s i x g h l c p = rw c (record { come = refl; keeps = refl; calm = λ _ es t. (tt, tt); still = λ _. refl })
-  more extra BitModify zero k s i x g h l c p = rw c (record { come = (x % 128, refl); keeps = refl; calm = λ _ es t. (tt, tt); still = λ _. refl })
-  more extra BitModify (suc zero) k s i x g h l c p =
+  more : (q : Speaker) (extra : ℕ) (y m : Command) (j : ℕ) (k : Core) (s : List Entry) (i : Instruction) (x : ℕ) → Good k → Reach q m → suc j < most extra m
+      → Come m j i → allowed k s m ≡ true → More extra y m j k s i x
+  more q extra y Reset j k s i x g h l c p = rw c (record { come = refl; keeps = refl; calm = λ _ es t. (tt, tt); still = λ _. refl })
+  more q extra y (Rts m) j k s i x g h l c p = rw c (record { come = refl; keeps = refl; calm = λ _ es t. (tt, tt); still = λ _. refl })
+  more q extra y UnknownCode j k s i x g h l c p = rw c (record { come = refl; keeps = refl; calm = λ _ es t. (tt, tt); still = λ _. refl })
+  more q extra y BitModify zero k s i x g h l c p = rw c (record { come = (x % 128, refl); keeps = refl; calm = λ _ es t. (tt, tt); still = λ _. refl })
+  more q extra y BitModify (suc zero) k s i x g h l c p =
       rw (c .1) (record { come = (c .0, x, refl); keeps = refl; calm = λ _ es t. (tt, tt); still = λ _. refl })
-  more extra BitModify (suc (suc zero)) k s i x g h l c p =
+  more q extra y BitModify (suc (suc zero)) k s i x g h l c p =
       rw (c .2) (record { come = refl; keeps = refl; calm = λ h es t. absurd (omega arith); still = λ h. absurd (omega arith) })
-  more extra BitModify (suc (suc (suc j))) k s i x g h l c p =
+  more q extra y BitModify (suc (suc (suc j))) k s i x g h l c p =
       rw c (record { come = refl; keeps = refl; calm = λ _ es t. (tt, tt); still = λ _. refl })
-  more extra Read zero k s i x g h l c p = rw c (record { come = (x % 128, refl); keeps = refl; calm = λ _ es t. (tt, tt); still = λ _. refl })
-  more extra Read (suc j) k s i x g h l c p =
+  more q extra y Read zero k s i x g h l c p = rw c (record { come = (x % 128, refl); keeps = refl; calm = λ _ es t. (tt, tt); still = λ _. refl })
+  more q extra y Read (suc j) k s i x g h l c p =
       rw (c .1) (record { come = (rising (c .0), refl); keeps = refl; calm = λ h es t. absurd (omega arith); still = λ h. absurd (omega arith) })
-  more extra Write zero k s i x g h l c p = rw c (record { come = (x % 128, refl); keeps = refl; calm = λ _ es t. (tt, tt); still = λ _. refl })
-  more extra Write (suc j) k s i x g h l c p =
+  more q extra y Write zero k s i x g h l c p = rw c (record { come = (x % 128, refl); keeps = refl; calm = λ _ es t. (tt, tt); still = λ _. refl })
+  more q extra y Write (suc j) k s i x g h l c p =
       rw (c .1) (record { come = (rising (c .0), refl); keeps = refl; calm = λ h es t. absurd (omega arith); still = λ h. absurd (omega arith) })
-  more extra ReadStatus j k s i x g h l c p =
+  more q extra y ReadStatus j k s i x g h l c p =
       rw c (record { come = refl; keeps = refl; calm = λ h es t. absurd (omega arith); still = λ h. absurd (omega arith) })
-  more extra RxStatus j k s i x g h l c p =
+  more q extra y RxStatus j k s i x g h l c p =
       rw c (record { come = refl; keeps = refl; calm = λ h es t. absurd (omega arith); still = λ h. absurd (omega arith) })
-  more extra (ReadRxBuffer n a) j k s i x g h l c p =
+  more q extra y (ReadRxBuffer n a) j k s i x g h l c p =
       let t : RxByte n (a + j) = record { from = omega arith; to = omega arith } in
       rw c (record {
         come = ap (λ (z : ℕ). ReadingBuffer n z) (rises a j (omega (arith, rx-low n)));
@@ -564,7 +656,7 @@ module _ (F : CoreFacts) where
         calm = λ _ es u. ((n, t, p), tt);
         still = λ z. absurd (omega arith);
       })
-  more extra (LoadTxBuffer n a) j k s i x g h l c p =
+  more q extra y (LoadTxBuffer n a) j k s i x g h l c p =
       let t : TxByte n (a + j) = record { from = omega arith; to = omega arith } in
       let w = allowed-load k n s p in
       rw c (record {
@@ -574,92 +666,96 @@ module _ (F : CoreFacts) where
         still = λ z. absurd (omega arith);
       })
 
-  -- ---- the chip c of a session that began at c₀ and has the inside s₀, of which s is still to come
-  abbrev Within : Chip → List Entry → Stage → Chip → List Entry → Type 0
-  Within c₀ s₀ fresh c s = (c .select ≡ Lowered First) × ((m : Command) → allowed (c₀ .core) s₀ m ≡ true → allowed (c .core) s m ≡ true)
-  Within c₀ s₀ (sofar m j) c s = (i : Instruction) × (c .select ≡ Lowered i) × Come m j i × (allowed (c .core) s m ≡ true) × Reach m
+  -- ---- the chip c of a session that began with l₀ and has the inside s₀, of which s is still to come
+  abbrev Within : Entry → List Entry → Stage → Chip → List Entry → Type 0
+  Within l₀ s₀ fresh c s = (c .select ≡ Lowered (speakerIn (l₀ .rec)) First) × ((m : Command) → allowed (l₀ .met .core) s₀ m ≡ true → allowed (c .core) s m ≡ true)
+  Within l₀ s₀ (sofar m j) c s = (i : Instruction) × (c .select ≡ Lowered (speakerIn (l₀ .rec)) i) × Come m j i × (allowed (c .core) s m ≡ true) × Reach (speakerIn (l₀ .rec)) m
 
   within-low : (c : Chip) (s : List Entry) (r : List ℕ) → Good (c .core) → roleAt c r ≡ low
-      → Within c s fresh (nextChip c r) s × ((es : List Entry) → Calms c r es)
+      → Within (entry c r) s fresh (nextChip c r) s × ((es : List Entry) → Calms c r es)
   within-low c s r g e = go (c .select) refl (accepted-as c r low refl e)
     where
-      go : (x : Select) → c .select ≡ x → Accepted c r SelectLow → Within c s fresh (nextChip c r) s × ((es : List Entry) → Calms c r es)
+      go : (x : Select) → c .select ≡ x → Accepted c r SelectLow → Within (entry c r) s fresh (nextChip c r) s × ((es : List Entry) → Calms c r es)
       go Raised es a =
-          let w : Within c s fresh (chip (acted Rest (c .core)) First) s = (refl, λ m h. ap (λ (k : Core). allowed k s m) g ∙ h) in (
-            subst (λ (d : Chip). Within c s fresh d s) (sym (accepted-next c r SelectLow Raised a es)) w,
+          let w : Within (entry c r) s fresh (chip (acted Rest (c .core)) (speakerIn r) First) s = (refl, λ m h. ap (λ (k : Core). allowed k s m) g ∙ h) in (
+            subst (λ (d : Chip). Within (entry c r) s fresh d s) (sym (low-next c r a es)) w,
             λ _. record { spi = a .plain; calm = rw (accepted-asks c r SelectLow Raised a es) tt },
           )
-      go (Lowered i) es a = clash (sym (rw es at (a .taken)))
+      go (Lowered q i) es a = clash (sym (rw es at (a .taken)))
 
-  within-event : (c₀ : Chip) (s₀ : List Entry) (σ : Stage) (c : Chip) (s : List Entry) (e : List ℕ) → Event e
-      → Within c₀ s₀ σ c (entry c e ∷ s) → Within c₀ s₀ σ (nextChip c e) s
-  within-event c₀ s₀ σ c s e v w = subst (λ (d : Chip). Within c₀ s₀ σ d s) (sym (event-next c e v)) (go σ w)
+  within-event : (l₀ : Entry) (s₀ : List Entry) (σ : Stage) (c : Chip) (s : List Entry) (e : List ℕ) → Event e
+      → Within l₀ s₀ σ c (entry c e ∷ s) → Within l₀ s₀ σ (nextChip c e) s
+  within-event l₀ s₀ σ c s e v w = subst (λ (d : Chip). Within l₀ s₀ σ d s) (sym (event-next c e v)) (go σ w)
     where
-      go : (σ : Stage) → Within c₀ s₀ σ c (entry c e ∷ s) → Within c₀ s₀ σ (eventStep c e .chip) s
+      go : (σ : Stage) → Within l₀ s₀ σ c (entry c e ∷ s) → Within l₀ s₀ σ (eventStep c e .chip) s
       go fresh w = (w .0, λ m h. allowed-event m c e s v (w .1 m h))
       go (sofar m j) w = (w .0, w .1, w .2, allowed-event m c e s v (w .3), w .4)
 
-  within-spared : (c₀ : Chip) (s₀ : List Entry) (m : Command) (j : ℕ) (c : Chip) (s : List Entry) (e : List ℕ) (es : List Entry) → Event e
-      → Within c₀ s₀ (sofar m j) c (entry c e ∷ s) → Spares m (nextChip c e .core) es → Spares m (c .core) (entry c e ∷ es)
-  within-spared c₀ s₀ m j c s e es v w t =
+  within-spared : (l₀ : Entry) (s₀ : List Entry) (m : Command) (j : ℕ) (c : Chip) (s : List Entry) (e : List ℕ) (es : List Entry) → Event e
+      → Within l₀ s₀ (sofar m j) c (entry c e ∷ s) → Spares m (nextChip c e .core) es → Spares m (c .core) (entry c e ∷ es)
+  within-spared l₀ s₀ m j c s e es v w t =
       spares-event m c e s es v (w .3) (subst (λ (d : Chip). Spares m (d .core) es) (event-next c e v) t)
 
-  within-select : (c₀ : Chip) (s₀ : List Entry) (σ : Stage) (c : Chip) (s : List Entry) → Within c₀ s₀ σ c s → (i : Instruction) × (c .select ≡ Lowered i)
-  within-select c₀ s₀ fresh c s w = (First, w .0)
-  within-select c₀ s₀ (sofar m j) c s w = (w .0, w .1)
+  within-select : (l₀ : Entry) (s₀ : List Entry) (σ : Stage) (c : Chip) (s : List Entry) → Within l₀ s₀ σ c s → (i : Instruction) × (c .select ≡ Lowered (speakerIn (l₀ .rec)) i)
+  within-select l₀ s₀ fresh c s w = (First, w .0)
+  within-select l₀ s₀ (sofar m j) c s w = (w .0, w .1)
 
-  within-tail : (c₀ : Chip) (s₀ : List Entry) (σ : Stage) (c : Chip) (x : Entry) (s : List Entry) → Within c₀ s₀ σ c (x ∷ s) → Within c₀ s₀ σ c s
-  within-tail c₀ s₀ fresh c x s w = (w .0, λ m h. allowed-tail m (c .core) x s (w .1 m h))
-  within-tail c₀ s₀ (sofar m j) c x s w = (w .0, w .1, w .2, allowed-tail m (c .core) x s (w .3), w .4)
+  within-tail : (l₀ : Entry) (s₀ : List Entry) (σ : Stage) (c : Chip) (x : Entry) (s : List Entry) → Within l₀ s₀ σ c (x ∷ s) → Within l₀ s₀ σ c s
+  within-tail l₀ s₀ fresh c x s w = (w .0, λ m h. allowed-tail m (c .core) x s (w .1 m h))
+  within-tail l₀ s₀ (sofar m j) c x s w = (w .0, w .1, w .2, allowed-tail m (c .core) x s (w .3), w .4)
 
-  within-other : (c₀ : Chip) (s₀ : List Entry) (σ : Stage) (c : Chip) (s : List Entry) (r : List ℕ) → isOther (roleAt c r) ≡ true
-      → Within c₀ s₀ σ c (entry c r ∷ s) → Within c₀ s₀ σ (nextChip c r) s × Quiets c r × (nextChip c r ≡ c)
-  within-other c₀ s₀ σ c s r h w =
-      let z = within-select c₀ s₀ σ c (entry c r ∷ s) w in
-      let at : chip (c .core) (z .0) ≡ c = λ t. record { core = c .core; select = sym (z .1) t } in
-      let o = subst (λ (d : Chip). isOther (roleAt d r) ≡ true → (nextChip d r ≡ d) × Quiets d r) at (other-step (c .core) (z .0) r) h in
-      (subst (λ (d : Chip). Within c₀ s₀ σ d s) (sym (o .0)) (within-tail c₀ s₀ σ c (entry c r) s w), o .1, o .0)
-
-  within-first : (c₀ : Chip) (s₀ : List Entry) (c : Chip) (s : List Entry) (r : List ℕ) → Good (c .core) → roleAt c r ≡ exchange
-      → allowed (c₀ .core) s₀ (named r) ≡ true → Within c₀ s₀ fresh c (entry c r ∷ s)
-      → Within c₀ s₀ (sofar (named r) 0) (nextChip c r) s × (0 < momentOf (named r) → (es : List Entry) → Calms c r es)
-  within-first c₀ s₀ c s r g e h w =
-      let m : Command = named r in
-      let a : Accepted c r Exchange = accepted-as c r exchange refl e in
-      let p : Within c₀ s₀ (sofar m 0) (chip (acted (firstAct m) (c .core)) (opened m)) s =
-      (opened m, refl, come-first m, allowed-first m (c .core) s g (allowed-tail m (c .core) (entry c r) s (w .1 m h)), reach (byteAt r 1)) in (
-        subst (λ (d : Chip). Within c₀ s₀ (sofar m 0) d s) (sym (accepted-next c r Exchange (Lowered First) a (w .0))) p,
-        λ z es. record { spi = a .plain; calm = rw (accepted-asks c r Exchange (Lowered First) a (w .0)) (calm-first m (c .core) es z) },
-      )
+  within-other : (l₀ : Entry) (s₀ : List Entry) (σ : Stage) (c : Chip) (s : List Entry) (r : List ℕ) → isOther (roleAt c r) ≡ true
+      → Within l₀ s₀ σ c (entry c r ∷ s) → Within l₀ s₀ σ (nextChip c r) s × Quiets c r × (nextChip c r ≡ c)
+  within-other l₀ s₀ σ c s r h w =
+      let z = within-select l₀ s₀ σ c (entry c r ∷ s) w in
+      let at : chip (c .core) (speakerIn (l₀ .rec)) (z .0) ≡ c = λ t. record { core = c .core; select = sym (z .1) t } in
+      let o = subst (λ (d : Chip). isOther (roleAt d r) ≡ true → (nextChip d r ≡ d) × Quiets d r) at (other-step (c .core) (speakerIn (l₀ .rec)) (z .0) r) h in
+      (subst (λ (d : Chip). Within l₀ s₀ σ d s) (sym (o .0)) (within-tail l₀ s₀ σ c (entry c r) s w), o .1, o .0)
 
   module _ (extra : ℕ) where
-    within-next : (c₀ : Chip) (s₀ : List Entry) (c : Chip) (s : List Entry) (m : Command) (j : ℕ) (r : List ℕ) → Good (c .core) → roleAt c r ≡ exchange
-        → suc j < most extra m → Within c₀ s₀ (sofar m j) c (entry c r ∷ s)
-        → Within c₀ s₀ (sofar m (suc j)) (nextChip c r) s
-        × (suc j < momentOf m → (es : List Entry) → Spares m (nextChip c r .core) es → Calms c r es × Spares m (c .core) es)
-        × (momentOf m ≤ j → Quiets c r)
-    within-next c₀ s₀ c s m j r g e l w =
+    within-first : (l₀ : Entry) (s₀ : List Entry) (c : Chip) (s : List Entry) (r : List ℕ) → Good (c .core) → roleAt c r ≡ exchange
+        → allowed (l₀ .met .core) s₀ (named l₀ r) ≡ true → Within l₀ s₀ fresh c (entry c r ∷ s)
+        → Within l₀ s₀ (sofar (named l₀ r) 0) (nextChip c r) s × (0 < momentOf extra (named l₀ r) → (es : List Entry) → Calms c r es)
+    within-first l₀ s₀ c s r g e h w =
+        let p : Speaker = speakerIn (l₀ .rec) in
+        let m : Command = named l₀ r in
+        let a : Accepted c r Exchange = accepted-as c r exchange refl e in
+        let v : Within l₀ s₀ (sofar m 0) (chip (acted (firstAct m) (c .core)) p (opened m)) s =
+        (opened m, refl, come-first m, allowed-first m (c .core) s g (allowed-tail m (c .core) (entry c r) s (w .1 m h)), reach p (byteAt r 1)) in (
+          subst (λ (d : Chip). Within l₀ s₀ (sofar m 0) d s) (sym (exchange-next c r p First a (w .0) (first-goes p))) v,
+          λ z es. record { spi = a .plain; calm = rw (exchange-asks c r p First a (w .0) (first-goes p)) (calm-first extra m (c .core) es z) },
+        )
+
+    within-next : (l₀ : Entry) (s₀ : List Entry) (c : Chip) (s : List Entry) (m : Command) (j : ℕ) (r : List ℕ) → Good (c .core) → roleAt c r ≡ exchange
+        → suc j < most extra m → Within l₀ s₀ (sofar m j) c (entry c r ∷ s)
+        → Within l₀ s₀ (sofar m (suc j)) (nextChip c r) s
+        × (suc j < momentOf extra m → (es : List Entry) → Spares m (nextChip c r .core) es → Calms c r es × Spares m (c .core) es)
+        × (momentOf extra m ≤ j → Quiets c r)
+    within-next l₀ s₀ c s m j r g e l w =
+        let p : Speaker = speakerIn (l₀ .rec) in
         let i : Instruction = w .0 in
         let x : ℕ = byteAt r 1 in
+        let y : Command = commandBy p x in
         let a : Accepted c r Exchange = accepted-as c r exchange refl e in
-        let n : More m j (c .core) s i x = more extra m j (c .core) s i x g (w .4) l (w .2) (allowed-tail m (c .core) (entry c r) s (w .3)) in
-        let p : Within c₀ s₀ (sofar m (suc j)) (chip (acted (exchangeAct i x) (c .core)) (exchangeNext i x)) s =
-        (exchangeNext i x, refl, n .come, n .keeps, w .4) in
-        let to : nextChip c r ≡ chip (acted (exchangeAct i x) (c .core)) (exchangeNext i x) = accepted-next c r Exchange (Lowered i) a (w .1) in
-        let q : asked (c .select) r ≡ exchangeAct i x = accepted-asks c r Exchange (Lowered i) a (w .1) in (
-          subst (λ (d : Chip). Within c₀ s₀ (sofar m (suc j)) d s) (sym to) p,
+        let on : goesOn p i ≡ true = goes p extra m j i (w .4) l (w .2) in
+        let n : More extra y m j (c .core) s i x = more p extra y m j (c .core) s i x g (w .4) l (w .2) (allowed-tail m (c .core) (entry c r) s (w .3)) in
+        let v : Within l₀ s₀ (sofar m (suc j)) (chip (acted (exchangeAct y i x) (c .core)) p (exchangeNext y i x)) s =
+        (exchangeNext y i x, refl, n .come, n .keeps, w .4) in
+        let to : nextChip c r ≡ chip (acted (exchangeAct y i x) (c .core)) p (exchangeNext y i x) = exchange-next c r p i a (w .1) on in
+        let q : asked (c .select) r ≡ exchangeAct y i x = exchange-asks c r p i a (w .1) on in (
+          subst (λ (d : Chip). Within l₀ s₀ (sofar m (suc j)) d s) (sym to) v,
           (λ z es t.
               let u = n .calm z es (subst (λ (d : Chip). Spares m (d .core) es) to t) in
               (record { spi = a .plain; calm = rw q (u .0) }, u .1)),
           (λ z. record { spi = a .plain; still = rw q (n .still z) }),
         )
 
-    within-high : (c₀ : Chip) (s₀ : List Entry) (c : Chip) (s : List Entry) (m : Command) (j : ℕ) (r : List ℕ) → roleAt c r ≡ high
-        → momentOf m ≤ j → j < most extra m → Within c₀ s₀ (sofar m j) c s → Quiets c r
-    within-high c₀ s₀ c s m j r e h l w =
+    within-high : (l₀ : Entry) (s₀ : List Entry) (c : Chip) (s : List Entry) (m : Command) (j : ℕ) (r : List ℕ) → roleAt c r ≡ high
+        → momentOf extra m ≤ j → j < most extra m → Within l₀ s₀ (sofar m j) c s → Quiets c r
+    within-high l₀ s₀ c s m j r e h l w =
+        let p : Speaker = speakerIn (l₀ .rec) in
         let a : Accepted c r SelectHigh = accepted-as c r high refl e in
-        let q : asked (c .select) r ≡ highAct (w .0) = accepted-asks c r SelectHigh (Lowered (w .0)) a (w .1) in
-        record { spi = a .plain; still = rw q (high-still extra m j (w .0) h l (w .2)) }
+        record { spi = a .plain; still = rw (high-asks c r p (w .0) a (w .1)) (high-still p extra m j (w .0) h l (w .2)) }
 
     good-power-on : Good (powerOn .core)
     unfolding powerOn
@@ -680,7 +776,7 @@ module _ (F : CoreFacts) where
       spared-none = λ m c. spares-none m (c .core);
       Inside = Within;
       inside-low = within-low;
-      inside-event = λ c₀ s₀ σ c s e g v w. within-event c₀ s₀ σ c s e v w;
+      inside-event = λ l₀ s₀ σ c s e g v w. within-event l₀ s₀ σ c s e v w;
       spared-event = within-spared;
       inside-other = within-other;
       inside-first = within-first;

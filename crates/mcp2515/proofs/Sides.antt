@@ -15,9 +15,10 @@ use Rattle.registers.specs.declared.Core.{Core}
 use Rattle.image.specs.Image.{Became}
 use Rattle.controller.specs.Events.{eventRefusal, eventOf}
 use Rattle.spi.specs.declared.Act.the-variants.{Refuse}
+use Rattle.spi.specs.declared.Speaker.{Speaker}
 use Rattle.spi.specs.declared.Select.{Select}
 use Rattle.spi.specs.declared.Select.the-variants.{Raised, Lowered}
-use Rattle.spi.specs.Instructions.{refusalOf, replyTo, acted}
+use Rattle.spi.specs.Instructions.{speakerBy, refusalOf, replyTo, acted}
 use Rattle.spi.specs.Open.{selectOf, Turned}
 use Rattle.spi.proofs.Turns.{became-lined, turned-by}
 use Rattle.mcp2515.specs.declared.Chip.{Chip}
@@ -73,55 +74,58 @@ pub became-moved : {m n : List ℕ} {k : Core} → Became m n k → Moved m n (r
 became-moved w = turned-moved (turned-by (became-lined w))
 
 -- ---- a record of kind 0 to 2 by its number, where refusal 2 does not name it and where it does
-abbrev stepBy : Kind → Chip → ℕ → Stepped
-stepBy g c b =
+abbrev stepBy : Kind → Chip → Speaker → ℕ → Stepped
+stepBy g c p b =
     record {
-      refusal = refusalOf (askedBy g (c .select) b);
-      answer = replyTo (askedBy g (c .select) b) (c .core);
+      refusal = refusalOf (askedBy g (c .select) p b);
+      answer = replyTo (askedBy g (c .select) p b) (c .core);
       matched = 0;
-      chip = record { core = acted (askedBy g (c .select) b) (c .core); select = turnedBy g (c .select) b };
+      chip = record { core = acted (askedBy g (c .select) p b) (c .core); select = turnedBy g (c .select) p b };
     }
 
 abbrev Sound : Fields → Bool → Type 0
 Sound f b = soundPlain (kindBy (f .kind)) (recordOf f) ≡ b
 
-asked-here : (s : Select) (f : Fields) → asked s (recordOf f) ≡ cond (soundPlain (kindBy (f .kind)) (recordOf f)) (askedBy (kindBy (f .kind)) s (f .field)) (Refuse refusedField)
+asked-here : (s : Select) (f : Fields) → asked s (recordOf f) ≡ cond (soundPlain (kindBy (f .kind)) (recordOf f)) (askedBy (kindBy (f .kind)) s (speakerBy (f .code)) (f .field)) (Refuse refusedField)
 unfolding kindOf recordOf
 asked-here s f = sym (asked-plain s (recordOf f))
 
-turned-here : (s : Select) (f : Fields) → turned s (recordOf f) ≡ cond (soundPlain (kindBy (f .kind)) (recordOf f)) (turnedBy (kindBy (f .kind)) s (f .field)) s
+turned-here : (s : Select) (f : Fields) → turned s (recordOf f) ≡ cond (soundPlain (kindBy (f .kind)) (recordOf f)) (turnedBy (kindBy (f .kind)) s (speakerBy (f .code)) (f .field)) s
 unfolding kindOf recordOf
 turned-here s f = sym (turned-plain s (recordOf f))
 
 pub unsound-step : (c : Chip) (f : Fields) → f .kind < 3 → Sound f false → stepOf c (recordOf f) ≡ record { refusal = refusedField; answer = 0; matched = 0; chip = c }
 unsound-step c f h e = spi-side c f h ∙ rw (asked-here (c .select) f, turned-here (c .select) f, e)
 
-sound-step : (c : Chip) (f : Fields) → f .kind < 3 → Sound f true → stepOf c (recordOf f) ≡ stepBy (kindBy (f .kind)) c (f .field)
+sound-step : (c : Chip) (f : Fields) → f .kind < 3 → Sound f true → stepOf c (recordOf f) ≡ stepBy (kindBy (f .kind)) c (speakerBy (f .code)) (f .field)
 sound-step c f h e = spi-side c f h ∙ rw (asked-here (c .select) f, turned-here (c .select) f, e)
 
-low-any : (c : Chip) (b : ℕ) → stepBy SelectLow c b ≡ stepBy SelectLow c 0
-low-any c b = go (c .select)
+low-any : (c : Chip) (p : Speaker) (b : ℕ) → stepBy SelectLow c p b ≡ stepBy SelectLow c p 0
+low-any c p b = go (c .select)
   where
-    go : (s : Select) → stepBy SelectLow (record { core = c .core; select = s }) b ≡ stepBy SelectLow (record { core = c .core; select = s }) 0
+    go : (s : Select) → stepBy SelectLow (record { core = c .core; select = s }) p b ≡ stepBy SelectLow (record { core = c .core; select = s }) p 0
     go Raised = refl
-    go (Lowered i) = refl
+    go (Lowered q i) = refl
 
-high-any : (c : Chip) (b : ℕ) → stepBy SelectHigh c b ≡ stepBy SelectHigh c 0
-high-any c b = go (c .select)
+high-any : (c : Chip) (p : Speaker) (b : ℕ) → stepBy SelectHigh c p b ≡ stepBy SelectHigh c p 0
+high-any c p b = go (c .select)
   where
-    go : (s : Select) → stepBy SelectHigh (record { core = c .core; select = s }) b ≡ stepBy SelectHigh (record { core = c .core; select = s }) 0
+    go : (s : Select) → stepBy SelectHigh (record { core = c .core; select = s }) p b ≡ stepBy SelectHigh (record { core = c .core; select = s }) p 0
     go Raised = refl
-    go (Lowered i) = refl
+    go (Lowered q i) = refl
 
 module _ (c : Chip) (f : Fields) (e : Sound f true) where
-  pub low-step : f .kind ≡ 0 → stepOf c (recordOf f) ≡ stepBy SelectLow c 0
-  low-step n = sound-step c f (omega arith) e ∙ ap (λ (k : ℕ). stepBy (kindBy k) c (f .field)) n ∙ low-any c (f .field)
+  at-kind : {g : ℕ} → f .kind ≡ g → f .kind < 3 → stepOf c (recordOf f) ≡ stepBy (kindBy g) c (speakerBy (f .code)) (f .field)
+  at-kind n h = sound-step c f h e ∙ ap (λ (k : ℕ). stepBy (kindBy k) c (speakerBy (f .code)) (f .field)) n
 
-  pub exchange-step : f .kind ≡ 1 → stepOf c (recordOf f) ≡ stepBy Exchange c (f .field)
-  exchange-step n = sound-step c f (omega arith) e ∙ ap (λ (k : ℕ). stepBy (kindBy k) c (f .field)) n
+  pub low-step : f .kind ≡ 0 → stepOf c (recordOf f) ≡ stepBy SelectLow c (speakerBy (f .code)) 0
+  low-step n = at-kind n (omega arith) ∙ low-any c (speakerBy (f .code)) (f .field)
 
-  pub high-step : f .kind ≡ 2 → stepOf c (recordOf f) ≡ stepBy SelectHigh c 0
-  high-step n = sound-step c f (omega arith) e ∙ ap (λ (k : ℕ). stepBy (kindBy k) c (f .field)) n ∙ high-any c (f .field)
+  pub exchange-step : f .kind ≡ 1 → stepOf c (recordOf f) ≡ stepBy Exchange c (speakerBy (f .code)) (f .field)
+  exchange-step n = at-kind n (omega arith)
+
+  pub high-step : f .kind ≡ 2 → stepOf c (recordOf f) ≡ stepBy SelectHigh c (speakerBy (f .code)) 0
+  high-step n = at-kind n (omega arith) ∙ high-any c (speakerBy (f .code)) (f .field)
 
 -- a test that the code asks the other way round
 pub unless : (b : Bool) → not b ≡ true → b ≡ false

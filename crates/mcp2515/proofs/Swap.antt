@@ -11,11 +11,12 @@ use native.Mathlib.Omega.{arith}
 use Rattle.records.specs.declared.Kind.{Kind}
 use Rattle.records.specs.declared.Kind.the-variants.{SelectLow, Exchange, SelectHigh, FrameHeard, BusIdle, FrameEnds, ReceiveError, Recovery, PinLevel, Unknown}
 use Rattle.records.specs.Records.{byteAt, kindOf, isEvent}
+use Rattle.spi.specs.declared.Speaker.{Speaker}
 use Rattle.spi.specs.declared.Command.{Command}
 use Rattle.mcp2515.specs.declared.Chip.{Chip}
-use Rattle.spi.specs.Instructions.{commandOf}
+use Rattle.spi.specs.Instructions.{commandBy}
 use Rattle.records.specs.declared.Outcome.{Outcome}
-use Rattle.mcp2515.specs.Step.{powerOn, nextChip, outcome, chipAfter, outcomes}
+use Rattle.mcp2515.specs.Step.{powerOn, speakerIn, nextChip, outcome, chipAfter, outcomes}
 use Rattle.mcp2515.specs.Moments.{Role, event, low, exchange, high, other, acceptedRole, roleOf, isEventRole, isLow, isHigh, Entry, roleIn, trace, most, momentOf, allowed, listedBy, listed, events, others, bytes, before, after, placed, session, outside, inside, tidyFrom, tidy, records, outs, Demand3For}
 
 -- How far a session has come: no exchange yet, or j exchanges behind the first, which named this command.
@@ -38,9 +39,9 @@ Event e = isEvent (kindOf e) ≡ true
 abbrev pub roleAt : Chip → List ℕ → Role
 roleAt c r = roleOf r (outcome c r)
 
--- The command that the record r opens.
-abbrev pub named : List ℕ → Command
-named r = commandOf (byteAt r 1)
+-- The command that the record r opens in the session that began with this entry.
+abbrev pub named : Entry → List ℕ → Command
+named l r = commandBy (speakerIn (l .rec)) (byteAt r 1)
 
 -- The record r met by the chip c.
 abbrev pub entry : Chip → List ℕ → Entry
@@ -69,27 +70,27 @@ pub record Laws (extra : ℕ) : Type 1 where
   -- run from the chip, these events ask for nothing that the command forbids
   pub Spared : Command → Chip → List Entry → Type 0
   pub spared-none : (m : Command) (c : Chip) → Spared m c []
-  -- the chip c of a session that began at the chip c₀, has the inside s₀ and has come so far, with s still to come, as long as the
+  -- the chip c of a session that began with the entry l₀, has the inside s₀ and has come so far, with s still to come, as long as the
   -- session is listed
-  pub Inside : Chip → List Entry → Stage → Chip → List Entry → Type 0
+  pub Inside : Entry → List Entry → Stage → Chip → List Entry → Type 0
   pub inside-low : (c : Chip) (s : List Entry) (r : List ℕ) → Good c → roleAt c r ≡ low
-      → Inside c s fresh (nextChip c r) s × ((es : List Entry) → Calm c r es)
-  pub inside-event : (c₀ : Chip) (s₀ : List Entry) (σ : Stage) (c : Chip) (s : List Entry) (e : List ℕ) → Good c → Event e
-      → Inside c₀ s₀ σ c (entry c e ∷ s) → Inside c₀ s₀ σ (nextChip c e) s
-  pub spared-event : (c₀ : Chip) (s₀ : List Entry) (m : Command) (j : ℕ) (c : Chip) (s : List Entry) (e : List ℕ) (es : List Entry) → Event e
-      → Inside c₀ s₀ (sofar m j) c (entry c e ∷ s) → Spared m (nextChip c e) es → Spared m c (entry c e ∷ es)
-  pub inside-other : (c₀ : Chip) (s₀ : List Entry) (σ : Stage) (c : Chip) (s : List Entry) (r : List ℕ) → isOther (roleAt c r) ≡ true
-      → Inside c₀ s₀ σ c (entry c r ∷ s) → Inside c₀ s₀ σ (nextChip c r) s × Quiet c r × (nextChip c r ≡ c)
-  pub inside-first : (c₀ : Chip) (s₀ : List Entry) (c : Chip) (s : List Entry) (r : List ℕ) → Good c → roleAt c r ≡ exchange
-      → allowed (c₀ .core) s₀ (named r) ≡ true → Inside c₀ s₀ fresh c (entry c r ∷ s)
-      → Inside c₀ s₀ (sofar (named r) 0) (nextChip c r) s × (0 < momentOf (named r) → (es : List Entry) → Calm c r es)
-  pub inside-next : (c₀ : Chip) (s₀ : List Entry) (c : Chip) (s : List Entry) (m : Command) (j : ℕ) (r : List ℕ) → Good c → roleAt c r ≡ exchange
-      → suc j < most extra m → Inside c₀ s₀ (sofar m j) c (entry c r ∷ s)
-      → Inside c₀ s₀ (sofar m (suc j)) (nextChip c r) s
-      × (suc j < momentOf m → (es : List Entry) → Spared m (nextChip c r) es → Calm c r es × Spared m c es)
-      × (momentOf m ≤ j → Quiet c r)
-  pub inside-high : (c₀ : Chip) (s₀ : List Entry) (c : Chip) (s : List Entry) (m : Command) (j : ℕ) (r : List ℕ) → roleAt c r ≡ high
-      → momentOf m ≤ j → j < most extra m → Inside c₀ s₀ (sofar m j) c s → Quiet c r
+      → Inside (entry c r) s fresh (nextChip c r) s × ((es : List Entry) → Calm c r es)
+  pub inside-event : (l₀ : Entry) (s₀ : List Entry) (σ : Stage) (c : Chip) (s : List Entry) (e : List ℕ) → Good c → Event e
+      → Inside l₀ s₀ σ c (entry c e ∷ s) → Inside l₀ s₀ σ (nextChip c e) s
+  pub spared-event : (l₀ : Entry) (s₀ : List Entry) (m : Command) (j : ℕ) (c : Chip) (s : List Entry) (e : List ℕ) (es : List Entry) → Event e
+      → Inside l₀ s₀ (sofar m j) c (entry c e ∷ s) → Spared m (nextChip c e) es → Spared m c (entry c e ∷ es)
+  pub inside-other : (l₀ : Entry) (s₀ : List Entry) (σ : Stage) (c : Chip) (s : List Entry) (r : List ℕ) → isOther (roleAt c r) ≡ true
+      → Inside l₀ s₀ σ c (entry c r ∷ s) → Inside l₀ s₀ σ (nextChip c r) s × Quiet c r × (nextChip c r ≡ c)
+  pub inside-first : (l₀ : Entry) (s₀ : List Entry) (c : Chip) (s : List Entry) (r : List ℕ) → Good c → roleAt c r ≡ exchange
+      → allowed (l₀ .met .core) s₀ (named l₀ r) ≡ true → Inside l₀ s₀ fresh c (entry c r ∷ s)
+      → Inside l₀ s₀ (sofar (named l₀ r) 0) (nextChip c r) s × (0 < momentOf extra (named l₀ r) → (es : List Entry) → Calm c r es)
+  pub inside-next : (l₀ : Entry) (s₀ : List Entry) (c : Chip) (s : List Entry) (m : Command) (j : ℕ) (r : List ℕ) → Good c → roleAt c r ≡ exchange
+      → suc j < most extra m → Inside l₀ s₀ (sofar m j) c (entry c r ∷ s)
+      → Inside l₀ s₀ (sofar m (suc j)) (nextChip c r) s
+      × (suc j < momentOf extra m → (es : List Entry) → Spared m (nextChip c r) es → Calm c r es × Spared m c es)
+      × (momentOf extra m ≤ j → Quiet c r)
+  pub inside-high : (l₀ : Entry) (s₀ : List Entry) (c : Chip) (s : List Entry) (m : Command) (j : ℕ) (r : List ℕ) → roleAt c r ≡ high
+      → momentOf extra m ≤ j → j < most extra m → Inside l₀ s₀ (sofar m j) c s → Quiet c r
 
 -- ---- roles
 event-only : (ρ : Role) → isEventRole ρ ≡ true → ρ ≡ event
@@ -130,7 +131,7 @@ role-of-event : (κ : Kind) (b : Bool) → cond b (acceptedRole κ) other ≡ ev
 role-of-event κ true e = accepted-event κ e
 role-of-event κ false e = cc
 
-event-of : (r : List ℕ) (o : Outcome) → roleOf r o ≡ event → Event r
+pub event-of : (r : List ℕ) (o : Outcome) → roleOf r o ≡ event → Event r
 unfolding roleOf
 event-of r o e = go (isEvent (kindOf r)) refl (λ h. role-of-event (kindOf r) (eqb (o .refusal) 0) (rw h at e))
   where
@@ -327,13 +328,13 @@ module _ (extra : ℕ) (L : Laws extra) where
       go exchange e (suc k) t n = rw (e, e) (calm k (t .0) (n k (t .1)))
 
   -- ---- a listed session is ready
-  still-inside : (c₀ : Chip) (s₀ : List Entry) (c : Chip) (m : Command) (j : ℕ) (qs : List (List ℕ)) (h : List ℕ) → Good c → NoHigh c qs
-      → roleAt (chipAfter c qs) h ≡ high → momentOf m ≤ j → j + length (bytes (trace c qs)) < most extra m
-      → Inside c₀ s₀ (sofar m j) c (trace c qs) → Still c (trace c qs) (entry (chipAfter c qs) h)
+  still-inside : (l₀ : Entry) (s₀ : List Entry) (c : Chip) (m : Command) (j : ℕ) (qs : List (List ℕ)) (h : List ℕ) → Good c → NoHigh c qs
+      → roleAt (chipAfter c qs) h ≡ high → momentOf extra m ≤ j → j + length (bytes (trace c qs)) < most extra m
+      → Inside l₀ s₀ (sofar m j) c (trace c qs) → Still c (trace c qs) (entry (chipAfter c qs) h)
   unfolding trace chipAfter bytes
-  still-inside c₀ s₀ c m j [] h g n eh p le i = inside-high c₀ s₀ c [] m j h eh p (omega arith) i
-  still-inside c₀ s₀ c m j (r ∷ qs) h g n eh p le i =
-      go (roleAt c r) refl (λ j′ p′ t l. still-inside c₀ s₀ (nextChip c r) m j′ qs h (good-next c r g) (n .1) eh p′ l t)
+  still-inside l₀ s₀ c m j [] h g n eh p le i = inside-high l₀ s₀ c [] m j h eh p (omega arith) i
+  still-inside l₀ s₀ c m j (r ∷ qs) h g n eh p le i =
+      go (roleAt c r) refl (λ j′ p′ t l. still-inside l₀ s₀ (nextChip c r) m j′ qs h (good-next c r g) (n .1) eh p′ l t)
     where
       s : List Entry
       s = trace (nextChip c r) qs
@@ -342,29 +343,29 @@ module _ (extra : ℕ) (L : Laws extra) where
       Next = Still (nextChip c r) (trace (nextChip c r) qs) (entry (chipAfter (nextChip c r) qs) h)
 
       go : (ρ : Role) → roleAt c r ≡ ρ
-          → ((j′ : ℕ) → momentOf m ≤ j′ → Inside c₀ s₀ (sofar m j′) (nextChip c r) (trace (nextChip c r) qs)
+          → ((j′ : ℕ) → momentOf extra m ≤ j′ → Inside l₀ s₀ (sofar m j′) (nextChip c r) (trace (nextChip c r) qs)
           → j′ + length (bytes (trace (nextChip c r) qs)) < most extra m → Next)
           → Still c (trace c (r ∷ qs)) (entry (chipAfter c (r ∷ qs)) h)
-      go event e k = rw e (k j p (inside-event c₀ s₀ (sofar m j) c s r g (event-of r (outcome c r) e) i) (rw e at le))
-      go low e k = let w = inside-other c₀ s₀ (sofar m j) c s r (rw e) i in rw e (w .1, k j p (w .0) (rw e at le))
-      go other e k = let w = inside-other c₀ s₀ (sofar m j) c s r (rw e) i in rw e (w .1, k j p (w .0) (rw e at le))
+      go event e k = rw e (k j p (inside-event l₀ s₀ (sofar m j) c s r g (event-of r (outcome c r) e) i) (rw e at le))
+      go low e k = let w = inside-other l₀ s₀ (sofar m j) c s r (rw e) i in rw e (w .1, k j p (w .0) (rw e at le))
+      go other e k = let w = inside-other l₀ s₀ (sofar m j) c s r (rw e) i in rw e (w .1, k j p (w .0) (rw e at le))
       go high e k = absurd (true-false (rw e at (n .0)))
       go exchange e k =
           let l : j + suc (length (bytes (trace (nextChip c r) qs))) < most extra m = rw e at le in
-          let w = inside-next c₀ s₀ c s m j r g e (omega arith) i in
+          let w = inside-next l₀ s₀ c s m j r g e (omega arith) i in
           rw e (w .2 p, k (suc j) (omega arith) (w .0) (omega arith))
 
   -- .. and its events before the moment are spared
   abbrev Prepared : ℕ → Command → Chip → List Entry → Entry → Type 0
   Prepared k m c s h = Ready k c s h × Spared m c (events (before k s))
 
-  ready-inside : (c₀ : Chip) (s₀ : List Entry) (c : Chip) (m : Command) (j k : ℕ) (qs : List (List ℕ)) (h : List ℕ) → Good c → NoHigh c qs
-      → roleAt (chipAfter c qs) h ≡ high → suc j + k ≡ momentOf m → j + length (bytes (trace c qs)) < most extra m
-      → Inside c₀ s₀ (sofar m j) c (trace c qs) → Prepared k m c (trace c qs) (entry (chipAfter c qs) h)
+  ready-inside : (l₀ : Entry) (s₀ : List Entry) (c : Chip) (m : Command) (j k : ℕ) (qs : List (List ℕ)) (h : List ℕ) → Good c → NoHigh c qs
+      → roleAt (chipAfter c qs) h ≡ high → suc j + k ≡ momentOf extra m → j + length (bytes (trace c qs)) < most extra m
+      → Inside l₀ s₀ (sofar m j) c (trace c qs) → Prepared k m c (trace c qs) (entry (chipAfter c qs) h)
   unfolding trace chipAfter bytes events before
-  ready-inside c₀ s₀ c m j k [] h g n eh p le i = (tt, spared-none m c)
-  ready-inside c₀ s₀ c m j k (r ∷ qs) h g n eh p le i =
-      go (roleAt c r) refl k p (λ j′ k′ p′ t l. ready-inside c₀ s₀ (nextChip c r) m j′ k′ qs h (good-next c r g) (n .1) eh p′ l t)
+  ready-inside l₀ s₀ c m j k [] h g n eh p le i = (tt, spared-none m c)
+  ready-inside l₀ s₀ c m j k (r ∷ qs) h g n eh p le i =
+      go (roleAt c r) refl k p (λ j′ k′ p′ t l. ready-inside l₀ s₀ (nextChip c r) m j′ k′ qs h (good-next c r g) (n .1) eh p′ l t)
     where
       s : List Entry
       s = trace (nextChip c r) qs
@@ -372,78 +373,82 @@ module _ (extra : ℕ) (L : Laws extra) where
       same : (k : ℕ) → nextChip c r ≡ c → Spared m (nextChip c r) (events (before k s)) → Spared m c (events (before k s))
       same k e t = subst (λ (d : Chip). Spared m d (events (before k s))) e t
 
-      go : (ρ : Role) → roleAt c r ≡ ρ → (k : ℕ) → suc j + k ≡ momentOf m
-          → ((j′ k′ : ℕ) → suc j′ + k′ ≡ momentOf m → Inside c₀ s₀ (sofar m j′) (nextChip c r) (trace (nextChip c r) qs)
+      go : (ρ : Role) → roleAt c r ≡ ρ → (k : ℕ) → suc j + k ≡ momentOf extra m
+          → ((j′ k′ : ℕ) → suc j′ + k′ ≡ momentOf extra m → Inside l₀ s₀ (sofar m j′) (nextChip c r) (trace (nextChip c r) qs)
           → j′ + length (bytes (trace (nextChip c r) qs)) < most extra m
           → Prepared k′ m (nextChip c r) (trace (nextChip c r) qs) (entry (chipAfter (nextChip c r) qs) h))
           → Prepared k m c (trace c (r ∷ qs)) (entry (chipAfter c (r ∷ qs)) h)
       go event e k p f =
           let ev : Event r = event-of r (outcome c r) e in
-          let t = f j k p (inside-event c₀ s₀ (sofar m j) c s r g ev i) (rw e at le) in
-          rw (e, e) (t .0, spared-event c₀ s₀ m j c s r (events (before k s)) ev i (t .1))
+          let t = f j k p (inside-event l₀ s₀ (sofar m j) c s r g ev i) (rw e at le) in
+          rw (e, e) (t .0, spared-event l₀ s₀ m j c s r (events (before k s)) ev i (t .1))
       go low e k p f =
-          let w = inside-other c₀ s₀ (sofar m j) c s r (rw e) i in
+          let w = inside-other l₀ s₀ (sofar m j) c s r (rw e) i in
           let t = f j k p (w .0) (rw e at le) in
           rw (e, e) ((quiet-calm c r (events (before k s)) (w .1), t .0), same k (w .2) (t .1))
       go other e k p f =
-          let w = inside-other c₀ s₀ (sofar m j) c s r (rw e) i in
+          let w = inside-other l₀ s₀ (sofar m j) c s r (rw e) i in
           let t = f j k p (w .0) (rw e at le) in
           rw (e, e) ((quiet-calm c r (events (before k s)) (w .1), t .0), same k (w .2) (t .1))
       go high e k p f = absurd (true-false (rw e at (n .0)))
       go exchange e zero p f =
           let l : j + suc (length (bytes (trace (nextChip c r) qs))) < most extra m = rw e at le in
-          let w = inside-next c₀ s₀ c s m j r g e (omega arith) i in
-          rw e (still-inside c₀ s₀ (nextChip c r) m (suc j) qs h (good-next c r g) (n .1) eh (omega arith) (omega arith) (w .0), spared-none m c)
+          let w = inside-next l₀ s₀ c s m j r g e (omega arith) i in
+          rw e (still-inside l₀ s₀ (nextChip c r) m (suc j) qs h (good-next c r g) (n .1) eh (omega arith) (omega arith) (w .0), spared-none m c)
       go exchange e (suc k) p f =
           let l : j + suc (length (bytes (trace (nextChip c r) qs))) < most extra m = rw e at le in
-          let w = inside-next c₀ s₀ c s m j r g e (omega arith) i in
+          let w = inside-next l₀ s₀ c s m j r g e (omega arith) i in
           let t = f (suc j) k (omega arith) (w .0) (omega arith) in
           let q = w .1 (omega arith) (events (before k s)) (t .1) in
           rw (e, e) ((q .0, t .0), q .1)
 
-  listed-cons : (c : Chip) (s : List Entry) (b : ℕ) (bs : List ℕ) (k : ℕ) → listedBy extra c s (b ∷ bs) ≡ some k
-      → (length (b ∷ bs) ≤ most extra (commandOf b)) × (allowed (c .core) s (commandOf b) ≡ true) × (momentOf (commandOf b) ≡ k)
+  -- the moment of a session by its select low, its inside and its bytes
+  abbrev listedIn : Entry → List Entry → List ℕ → Option ℕ
+  listedIn l s bs = listedBy extra (speakerIn (l .rec)) (l .met) s bs
+
+  listed-cons : (p : Speaker) (c : Chip) (s : List Entry) (b : ℕ) (bs : List ℕ) (k : ℕ) → listedBy extra p c s (b ∷ bs) ≡ some k
+      → (length (b ∷ bs) ≤ most extra (commandBy p b)) × (allowed (c .core) s (commandBy p b) ≡ true) × (momentOf extra (commandBy p b) ≡ k)
   unfolding listedBy
-  listed-cons c s b bs k e = go (leb (length (b ∷ bs)) (most extra (commandOf b))) refl (allowed (c .core) s (commandOf b)) refl e
+  listed-cons p c s b bs k e = go (leb (length (b ∷ bs)) (most extra (commandBy p b))) refl (allowed (c .core) s (commandBy p b)) refl e
     where
-      go : (x : Bool) → leb (length (b ∷ bs)) (most extra (commandOf b)) ≡ x → (y : Bool) → allowed (c .core) s (commandOf b) ≡ y
-          → cond (x && y) (some (momentOf (commandOf b))) none ≡ some k
-          → (length (b ∷ bs) ≤ most extra (commandOf b)) × (allowed (c .core) s (commandOf b) ≡ true) × (momentOf (commandOf b) ≡ k)
-      go true ex true ey e = (leb→le (length (b ∷ bs)) (most extra (commandOf b)) (rw ex tt), ey, (cc))
+      go : (x : Bool) → leb (length (b ∷ bs)) (most extra (commandBy p b)) ≡ x → (y : Bool) → allowed (c .core) s (commandBy p b) ≡ y
+          → cond (x && y) (some (momentOf extra (commandBy p b))) none ≡ some k
+          → (length (b ∷ bs) ≤ most extra (commandBy p b)) × (allowed (c .core) s (commandBy p b) ≡ true) × (momentOf extra (commandBy p b) ≡ k)
+      go true ex true ey e = (leb→le (length (b ∷ bs)) (most extra (commandBy p b)) (rw ex tt), ey, (cc))
       go true ex false ey e = absurd (none-some k e)
       go false ex true ey e = absurd (none-some k e)
       go false ex false ey e = absurd (none-some k e)
 
-  ready : (c₀ : Chip) (s₀ : List Entry) (c : Chip) (k : ℕ) (qs : List (List ℕ)) (h : List ℕ) → Good c → NoHigh c qs
-      → roleAt (chipAfter c qs) h ≡ high → listedBy extra c₀ s₀ (bytes (trace c qs)) ≡ some k → Inside c₀ s₀ fresh c (trace c qs)
+  ready : (l₀ : Entry) (s₀ : List Entry) (c : Chip) (k : ℕ) (qs : List (List ℕ)) (h : List ℕ) → Good c → NoHigh c qs
+      → roleAt (chipAfter c qs) h ≡ high → listedIn l₀ s₀ (bytes (trace c qs)) ≡ some k → Inside l₀ s₀ fresh c (trace c qs)
       → Ready k c (trace c qs) (entry (chipAfter c qs) h)
   unfolding trace chipAfter bytes
-  ready c₀ s₀ c k [] h g n eh le i = tt
-  ready c₀ s₀ c k (r ∷ qs) h g n eh le i =
-      go (roleAt c r) refl k le (λ k′ t l. ready c₀ s₀ (nextChip c r) k′ qs h (good-next c r g) (n .1) eh l t)
+  ready l₀ s₀ c k [] h g n eh le i = tt
+  ready l₀ s₀ c k (r ∷ qs) h g n eh le i =
+      go (roleAt c r) refl k le (λ k′ t l. ready l₀ s₀ (nextChip c r) k′ qs h (good-next c r g) (n .1) eh l t)
     where
       s : List Entry
       s = trace (nextChip c r) qs
 
-      go : (ρ : Role) → roleAt c r ≡ ρ → (k : ℕ) → listedBy extra c₀ s₀ (bytes (trace c (r ∷ qs))) ≡ some k
-          → ((k′ : ℕ) → Inside c₀ s₀ fresh (nextChip c r) (trace (nextChip c r) qs) → listedBy extra c₀ s₀ (bytes (trace (nextChip c r) qs)) ≡ some k′
+      go : (ρ : Role) → roleAt c r ≡ ρ → (k : ℕ) → listedIn l₀ s₀ (bytes (trace c (r ∷ qs))) ≡ some k
+          → ((k′ : ℕ) → Inside l₀ s₀ fresh (nextChip c r) (trace (nextChip c r) qs) → listedIn l₀ s₀ (bytes (trace (nextChip c r) qs)) ≡ some k′
           → Ready k′ (nextChip c r) (trace (nextChip c r) qs) (entry (chipAfter (nextChip c r) qs) h))
           → Ready k c (trace c (r ∷ qs)) (entry (chipAfter c (r ∷ qs)) h)
-      go event e k le f = rw e (f k (inside-event c₀ s₀ fresh c s r g (event-of r (outcome c r) e) i) (rw e at le))
+      go event e k le f = rw e (f k (inside-event l₀ s₀ fresh c s r g (event-of r (outcome c r) e) i) (rw e at le))
       go low e k le f =
-          let w = inside-other c₀ s₀ fresh c s r (rw e) i in rw e (quiet-calm c r (events (before k s)) (w .1), f k (w .0) (rw e at le))
+          let w = inside-other l₀ s₀ fresh c s r (rw e) i in rw e (quiet-calm c r (events (before k s)) (w .1), f k (w .0) (rw e at le))
       go other e k le f =
-          let w = inside-other c₀ s₀ fresh c s r (rw e) i in rw e (quiet-calm c r (events (before k s)) (w .1), f k (w .0) (rw e at le))
+          let w = inside-other l₀ s₀ fresh c s r (rw e) i in rw e (quiet-calm c r (events (before k s)) (w .1), f k (w .0) (rw e at le))
       go high e k le f = absurd (true-false (rw e at (n .0)))
       go exchange e zero le f =
-          let l = listed-cons c₀ s₀ (byteAt r 1) (bytes (trace (nextChip c r) qs)) zero (rw e at le) in
-          let w = inside-first c₀ s₀ c s r g e (l .1) i in
-          let z = still-inside c₀ s₀ (nextChip c r) (named r) 0 qs h (good-next c r g) (n .1) eh (omega (arith, l .2)) (omega (arith, l .0)) (w .0) in
+          let l = listed-cons (speakerIn (l₀ .rec)) (l₀ .met) s₀ (byteAt r 1) (bytes (trace (nextChip c r) qs)) zero (rw e at le) in
+          let w = inside-first l₀ s₀ c s r g e (l .1) i in
+          let z = still-inside l₀ s₀ (nextChip c r) (named l₀ r) 0 qs h (good-next c r g) (n .1) eh (omega (arith, l .2)) (omega (arith, l .0)) (w .0) in
           rw e z
       go exchange e (suc k) le f =
-          let l = listed-cons c₀ s₀ (byteAt r 1) (bytes (trace (nextChip c r) qs)) (suc k) (rw e at le) in
-          let w = inside-first c₀ s₀ c s r g e (l .1) i in
-          let z = ready-inside c₀ s₀ (nextChip c r) (named r) 0 k qs h (good-next c r g) (n .1) eh (omega (arith, l .2)) (omega (arith, l .0)) (w .0) in
+          let l = listed-cons (speakerIn (l₀ .rec)) (l₀ .met) s₀ (byteAt r 1) (bytes (trace (nextChip c r) qs)) (suc k) (rw e at le) in
+          let w = inside-first l₀ s₀ c s r g e (l .1) i in
+          let z = ready-inside l₀ s₀ (nextChip c r) (named l₀ r) 0 k qs h (good-next c r g) (n .1) eh (omega (arith, l .2)) (omega (arith, l .0)) (w .0) in
           rw e (w .1 (omega (arith, l .2)) (events (before k s)), z .0)
 
   -- A session, listed or not.
@@ -452,7 +457,7 @@ module _ (extra : ℕ) (L : Laws extra) where
       → Fits c (entry c l ∷ (trace (nextChip c l) qs ++ (entry (chipAfter (nextChip c l) qs) h ∷ rest))) d
       → Fits c (session extra (entry c l) (trace (nextChip c l) qs) (entry (chipAfter (nextChip c l) qs) h) ++ rest) d
   unfolding session placed
-  session-fits c d l qs h rest g el n eh f = go (listed extra c s) refl
+  session-fits c d l qs h rest g el n eh f = go (listed extra (entry c l) s) refl
     where
       s : List Entry
       s = trace (nextChip c l) qs
@@ -460,14 +465,14 @@ module _ (extra : ℕ) (L : Laws extra) where
       x : Entry
       x = entry (chipAfter (nextChip c l) qs) h
 
-      go : (o : Option ℕ) → listed extra c s ≡ o → Fits c (placed (listed extra c s) (entry c l) s x ++ rest) d
+      go : (o : Option ℕ) → listed extra (entry c l) s ≡ o → Fits c (placed (listed extra (entry c l) s) (entry c l) s x ++ rest) d
       go none e = rw e (subst (λ (t : List Entry). Fits c (entry c l ∷ t) d) (sym (append-snoc s x rest)) f)
       go (some k) e =
           let w = inside-low c s l g el in
           let g′ = good-next c l g in
           let es = events (before k s) in
           let zs = events (after k s) in
-          let r = early k (nextChip c l) d s x rest g′ (ready c s (nextChip c l) k qs h g′ n eh e (w .0)) (f .1) in
+          let r = early k (nextChip c l) d s x rest g′ (ready (entry c l) s (nextChip c l) k qs h g′ n eh e (w .0)) (f .1) in
           let m = behind c d (entry c l) es (others s ++ (x ∷ (zs ++ rest))) g (w .1 es) (all-events (before k s)) (f .0, r) in
           rw e (subst (λ (t : List Entry). Fits c t d) (regroup es (entry c l) (others s) x zs rest) m)
 

@@ -24,7 +24,7 @@ pub record Packed (m : List ℕ) (c : Chip) : Type 0 where
 -- an image m changed into n: n stands for the chip c, and the spare bytes stay
 pub record Moved (m n : List ℕ) (c : Chip) : Type 0 where
   pub packed : Packed n c
-  pub spare : drop 149 n ≡ drop 149 m
+  pub spare : drop 150 n ≡ drop 150 m
 
 -- what the step does to bytes that it is lent: an image stands for c afterwards; bytes of any other length are no image and stay
 pub record Advanced (m n : List ℕ) (c : Chip) : Type 0 where

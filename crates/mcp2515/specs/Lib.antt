@@ -4,3 +4,4 @@ pub mod Runs
 pub mod Promise
 pub mod Cases
 pub mod ChipImage
+pub mod Panel

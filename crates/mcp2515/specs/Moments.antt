@@ -16,12 +16,13 @@ use Rattle.receiving.specs.Receiving.{isFull}
 use Rattle.registers.specs.State.{levelOf}
 use Rattle.stores.specs.Store.{isLocked}
 use Rattle.controller.specs.Events.{fallsEnabled}
+use Rattle.spi.specs.declared.Speaker.{Speaker}
 use Rattle.spi.specs.declared.Command.{Command}
 use Rattle.spi.specs.declared.Command.the-variants.{Reset, Read, Write, BitModify, ReadRxBuffer, LoadTxBuffer, Rts, ReadStatus, RxStatus, UnknownCode}
 use Rattle.mcp2515.specs.declared.Chip.{Chip}
-use Rattle.spi.specs.Instructions.{commandOf}
+use Rattle.spi.specs.Instructions.{commandBy}
 use Rattle.records.specs.declared.Outcome.{Outcome}
-use Rattle.mcp2515.specs.Step.{powerOn, nextChip, outcome, chipAfter, outcomes}
+use Rattle.mcp2515.specs.Step.{powerOn, speakerIn, nextChip, outcome, chipAfter, outcomes}
 
 -- ---- what a record is in a run
 -- an event (kinds 3 to 8, accepted or not); a select low, a select high or an exchange, if accepted; any other record is refused
@@ -90,7 +91,8 @@ trace c (r ∷ rs) = record { met = c; rec = r; out = outcome c r } ∷ trace (n
 abbrev pub bytesFrom : ℕ → ℕ
 bytesFrom a = 14 - a % 16
 
--- the most exchanges of a listed session; extra is how many bytes past the last of RESET, RTS and BIT MODIFY it may have, 0 as the rules list them
+-- the most exchanges of a listed session; extra is how many bytes past the last of RESET, RTS, BIT MODIFY and an unknown code it may have, 0
+-- as the rules list them
 abbrev pub most : ℕ → Command → ℕ
 most extra Reset = 1 + extra
 most extra (Rts m) = 1 + extra
@@ -101,20 +103,20 @@ most extra ReadStatus = 2
 most extra RxStatus = 2
 most extra (ReadRxBuffer b a) = 1 + bytesFrom a
 most extra (LoadTxBuffer b a) = 1 + bytesFrom a
-most extra UnknownCode = 1
+most extra UnknownCode = 1 + extra
 
 -- the number of the exchange that is the moment, from 0; where the session has no such exchange the moment is select high
-abbrev pub momentOf : Command → ℕ
-momentOf Reset = 0
-momentOf (Rts m) = 0
-momentOf BitModify = 3
-momentOf Read = 2
-momentOf Write = 2
-momentOf ReadStatus = 1
-momentOf RxStatus = 1
-momentOf (ReadRxBuffer b a) = 1 + bytesFrom a
-momentOf (LoadTxBuffer b a) = 1 + bytesFrom a
-momentOf UnknownCode = 1
+abbrev pub momentOf : ℕ → Command → ℕ
+momentOf extra Reset = 0
+momentOf extra (Rts m) = 0
+momentOf extra BitModify = 3
+momentOf extra Read = 2
+momentOf extra Write = 2
+momentOf extra ReadStatus = 1
+momentOf extra RxStatus = 1
+momentOf extra (ReadRxBuffer b a) = 1 + bytesFrom a
+momentOf extra (LoadTxBuffer b a) = 1 + bytesFrom a
+momentOf extra UnknownCode = 1 + extra
 
 -- the buffer neither has TXREQ nor is in flight
 abbrev pub isFree : Core → TxBuffer → Bool
@@ -147,15 +149,16 @@ unfoldable pub bytes : List Entry → List ℕ
 bytes [] = []
 bytes (x ∷ xs) = cond (isExchange (roleIn x)) (byteAt (x .rec) 1 ∷ bytes xs) (bytes xs)
 
--- The moment, if a session with this inside and these bytes, its select low at this chip, is listed. A session with no exchange is a
--- command cut short.
-unfoldable pub listedBy : ℕ → Chip → List Entry → List ℕ → Option ℕ
-listedBy extra c s [] = some 0
-listedBy extra c s (b ∷ bs) =
-    cond (leb (length (b ∷ bs)) (most extra (commandOf b)) && allowed (c .core) s (commandOf b)) (some (momentOf (commandOf b))) none
+-- The moment, if a session of this speaker with this inside and these bytes, its select low at this chip, is listed. A session with no
+-- exchange is a command cut short. A code that the panel may not give counts as unknown.
+unfoldable pub listedBy : ℕ → Speaker → Chip → List Entry → List ℕ → Option ℕ
+listedBy extra p c s [] = some 0
+listedBy extra p c s (b ∷ bs) =
+    cond (leb (length (b ∷ bs)) (most extra (commandBy p b)) && allowed (c .core) s (commandBy p b)) (some (momentOf extra (commandBy p b))) none
 
-abbrev pub listed : ℕ → Chip → List Entry → Option ℕ
-listed extra c s = listedBy extra c s (bytes s)
+-- by its select low and what stands inside
+abbrev pub listed : ℕ → Entry → List Entry → Option ℕ
+listed extra l s = listedBy extra (speakerIn (l .rec)) (l .met) s (bytes s)
 
 -- ---- the tidied list
 unfoldable pub events : List Entry → List Entry
@@ -182,7 +185,7 @@ placed none l s h = l ∷ (s ++ (h ∷ []))
 placed (some k) l s h = events (before k s) ++ (l ∷ (others s ++ (h ∷ events (after k s))))
 
 unfoldable pub session : ℕ → Entry → List Entry → Entry → List Entry
-session extra l s h = placed (listed extra (l .met) s) l s h
+session extra l s h = placed (listed extra l s) l s h
 
 -- Outside a session, or inside one that began with this entry and has come so far.
 pub data Place : Type 0 where
@@ -234,7 +237,7 @@ abbrev pub Apart : ℕ → Place → List Entry → Type 0
 Apart extra p [] = Unit {0}
 Apart extra outside (x ∷ xs) = Apart extra (cond (isLow (roleIn x)) (inside x []) outside) xs
 Apart extra (inside l s) (x ∷ xs) =
-    cond (isHigh (roleIn x)) (Still (listed extra (l .met) s) s × Apart extra outside xs) (Apart extra (inside l (s ++ (x ∷ []))) xs)
+    cond (isHigh (roleIn x)) (Still (listed extra l s) s × Apart extra outside xs) (Apart extra (inside l (s ++ (x ∷ []))) xs)
 
 -- then the list is tidy as it stands
 abbrev pub TidyKept : ℕ → Type 0

@@ -6,7 +6,7 @@ ghost use Rattle.records.specs.Records.{recordOf};
 ghost use Rattle.registers.specs.Registers.{holds, reads, intIsLow};
 ghost use Rattle.image.specs.Image.{imageSize, coreOf, Answered, RefusedKept};
 ghost use Rattle.controller.specs.Events.{notAnImage};
-ghost use Rattle.spi.specs.Instructions.{acted};
+ghost use Rattle.spi.specs.Instructions.{speakerBy, acted};
 ghost use Rattle.spi.specs.Open.{selectOf, Turned};
 ghost use Rattle.mcp2515.specs.Step.{powerOn, askedBy, turnedBy, stepOf, outcome, nextChip};
 ghost use Rattle.mcp2515.specs.ChipImage.{
@@ -24,12 +24,14 @@ use crate::packing::pack;
 use crate::packing::unpack;
 use image::SELECT;
 use image::SIZE;
+use image::SPEAKER;
 use records::ACCEPTED;
 use records::Fields;
 use records::Kind;
 use records::Outcome;
 use records::REFUSED_FIELD;
 use records::REFUSED_SELECT;
+use records::REFUSED_SPEAKER;
 
 // The select byte of an image whose select is high.
 const RAISED: u8 = 0;
@@ -75,45 +77,51 @@ fn accept(answer: u8) -> Outcome
     }
 }
 
-fn step_low(image: &mut [u8]) -> Outcome
+fn step_low(image: &mut [u8], speaker: u8) -> Outcome
     requires { ⌜ length (now image) ≡ imageSize ⌝ }
-    ensures { λ r. ⌜ r ≡ actOutcome (askedBy Kind.SelectLow (selectOf (now (image .entry))) 0) (coreOf (now (image .entry))) ⌝ }
-    ensures { λ _. ⌜ Turned (now (image .entry)) (now (image .exit)) (acted (askedBy Kind.SelectLow (selectOf (now (image .entry))) 0) (coreOf (now (image .entry)))) (turnedBy Kind.SelectLow (selectOf (now (image .entry))) 0) ⌝ }
+    ensures { λ r. ⌜ r ≡ actOutcome (askedBy Kind.SelectLow (selectOf (now (image .entry))) (speakerBy speaker) 0) (coreOf (now (image .entry))) ⌝ }
+    ensures { λ _. ⌜ Turned (now (image .entry)) (now (image .exit)) (acted (askedBy Kind.SelectLow (selectOf (now (image .entry))) (speakerBy speaker) 0) (coreOf (now (image .entry)))) (turnedBy Kind.SelectLow (selectOf (now (image .entry))) (speakerBy speaker) 0) ⌝ }
     ensures { λ r. ⌜ RefusedKept (r .refusal) (now (image .entry)) (now (image .exit)) ⌝ }
 {
     if image[SELECT] == RAISED {
-        spi::open(image);
+        spi::open(image, speaker);
         return accept(0);
     }
     records::refused(REFUSED_SELECT)
 }
 
-fn step_exchange(image: &mut [u8], byte: u8) -> Outcome
+fn step_exchange(image: &mut [u8], speaker: u8, byte: u8) -> Outcome
     requires { ⌜ length (now image) ≡ imageSize ⌝ }
-    ensures { λ r. ⌜ r ≡ actOutcome (askedBy Kind.Exchange (selectOf (now (image .entry))) byte) (coreOf (now (image .entry))) ⌝ }
-    ensures { λ _. ⌜ Turned (now (image .entry)) (now (image .exit)) (acted (askedBy Kind.Exchange (selectOf (now (image .entry))) byte) (coreOf (now (image .entry)))) (turnedBy Kind.Exchange (selectOf (now (image .entry))) byte) ⌝ }
+    ensures { λ r. ⌜ r ≡ actOutcome (askedBy Kind.Exchange (selectOf (now (image .entry))) (speakerBy speaker) byte) (coreOf (now (image .entry))) ⌝ }
+    ensures { λ _. ⌜ Turned (now (image .entry)) (now (image .exit)) (acted (askedBy Kind.Exchange (selectOf (now (image .entry))) (speakerBy speaker) byte) (coreOf (now (image .entry)))) (turnedBy Kind.Exchange (selectOf (now (image .entry))) (speakerBy speaker) byte) ⌝ }
     ensures { λ r. ⌜ RefusedKept (r .refusal) (now (image .entry)) (now (image .exit)) ⌝ }
 {
     if image[SELECT] == RAISED {
         return records::refused(REFUSED_SELECT);
     }
+    if !spi::is_same(image[SPEAKER], speaker) {
+        return records::refused(REFUSED_SPEAKER);
+    }
     accept(spi::exchange(image, byte))
 }
 
-fn step_high(image: &mut [u8]) -> Outcome
+fn step_high(image: &mut [u8], speaker: u8) -> Outcome
     requires { ⌜ length (now image) ≡ imageSize ⌝ }
-    ensures { λ r. ⌜ r ≡ actOutcome (askedBy Kind.SelectHigh (selectOf (now (image .entry))) 0) (coreOf (now (image .entry))) ⌝ }
-    ensures { λ _. ⌜ Turned (now (image .entry)) (now (image .exit)) (acted (askedBy Kind.SelectHigh (selectOf (now (image .entry))) 0) (coreOf (now (image .entry)))) (turnedBy Kind.SelectHigh (selectOf (now (image .entry))) 0) ⌝ }
+    ensures { λ r. ⌜ r ≡ actOutcome (askedBy Kind.SelectHigh (selectOf (now (image .entry))) (speakerBy speaker) 0) (coreOf (now (image .entry))) ⌝ }
+    ensures { λ _. ⌜ Turned (now (image .entry)) (now (image .exit)) (acted (askedBy Kind.SelectHigh (selectOf (now (image .entry))) (speakerBy speaker) 0) (coreOf (now (image .entry)))) (turnedBy Kind.SelectHigh (selectOf (now (image .entry))) (speakerBy speaker) 0) ⌝ }
     ensures { λ r. ⌜ RefusedKept (r .refusal) (now (image .entry)) (now (image .exit)) ⌝ }
 {
     if image[SELECT] == RAISED {
         return records::refused(REFUSED_SELECT);
+    }
+    if !spi::is_same(image[SPEAKER], speaker) {
+        return records::refused(REFUSED_SPEAKER);
     }
     spi::close(image);
     accept(0)
 }
 
-// Kinds 0 to 2: refusal 2 comes first.
+// Kinds 0 to 2: refusal 2 comes first. It is asked of an exchange by itself, which may have any byte 1: that is quicker.
 fn step_spi(image: &mut [u8], fields: Fields) -> Outcome
     requires { ⌜ (length (now image) ≡ imageSize) × (fields .kind < 3) ⌝ }
     ensures { λ r. ⌜ r ≡ outcome (chipOf (now (image .entry))) (recordOf fields) ⌝ }
@@ -121,16 +129,19 @@ fn step_spi(image: &mut [u8], fields: Fields) -> Outcome
     ensures { λ r. ⌜ RefusedKept (r .refusal) (now (image .entry)) (now (image .exit)) ⌝ }
 {
     let number = fields.kind;
+    if number == 1 {
+        if !records::is_sound_plain(Kind::Exchange, fields) {
+            return records::refused(REFUSED_FIELD);
+        }
+        return step_exchange(image, fields.code, fields.field);
+    }
     if !records::is_sound_plain(records::kind_by(number), fields) {
         return records::refused(REFUSED_FIELD);
     }
-    if number == 1 {
-        return step_exchange(image, fields.field);
-    }
     if number == 0 {
-        return step_low(image);
+        return step_low(image, fields.code);
     }
-    step_high(image)
+    step_high(image, fields.code)
 }
 
 // One record, where the chip lies: kinds 0 to 2 are of the SPI side, an event never looks at it. The set is worked out where it is asked

@@ -31,6 +31,9 @@ refusedNoFlight = 4
 abbrev pub refusedState : ℕ
 refusedState = 5
 
+abbrev pub refusedSpeaker : ℕ
+refusedSpeaker = 18
+
 -- what is told of a refused record: its refusal, the answer 0 and an empty set
 abbrev pub refusedOutcome : ℕ → Outcome
 refusedOutcome n = record { refusal = n; answer = 0; matched = 0 }
@@ -77,6 +80,37 @@ abbrev pub zeros : List ℕ → ℕ → ℕ → Bool
 zeros r i zero = true
 zeros r i (suc n) = zeros r i n && eqb (byteAt r (i + n)) 0
 
+-- a length code goes up to 15
+abbrev pub largestCode : ℕ
+largestCode = 15
+
+-- ---- byte 1 goes up to this
+abbrev pub largestField : Kind → ℕ
+largestField SelectLow = 0
+largestField Exchange = 255
+largestField SelectHigh = 0
+largestField FrameHeard = 3
+largestField BusIdle = 0
+largestField FrameEnds = 2
+largestField ReceiveError = 1
+largestField Recovery = 0
+largestField PinLevel = 2
+largestField Unknown = 0
+
+-- ---- and byte 2 up to this. In kinds 0 to 2 it is who speaks, 0 the controller and 1 the panel; in kind 8, where byte 1 is n of TXnRTS,
+-- it is the level, 0 low and 1 high
+abbrev pub largestSecond : Kind → ℕ
+largestSecond SelectLow = 1
+largestSecond Exchange = 1
+largestSecond SelectHigh = 1
+largestSecond FrameHeard = largestCode
+largestSecond BusIdle = 0
+largestSecond FrameEnds = 0
+largestSecond ReceiveError = 0
+largestSecond Recovery = 0
+largestSecond PinLevel = 1
+largestSecond Unknown = 0
+
 -- ---- kind 3: a frame
 -- bytes 4 to 7 are the identifier, high byte first
 abbrev pub identifierOf : List ℕ → ℕ
@@ -92,10 +126,6 @@ frameOf r =
       identifier = identifierOf r;
       bytes = byteAt r 8 ∷ byteAt r 9 ∷ byteAt r 10 ∷ byteAt r 11 ∷ byteAt r 12 ∷ byteAt r 13 ∷ byteAt r 14 ∷ byteAt r 15 ∷ [];
     }
-
--- a length code goes up to 15
-abbrev pub largestCode : ℕ
-largestCode = 15
 
 -- the data bytes that a length code stands for: 9 to 15 mean eight, as 8 does
 abbrev pub dataBytes : ℕ → ℕ
@@ -116,33 +146,13 @@ zerosPast r n (suc j) = zerosPast r n j && (ltb j n || eqb (byteAt r (8 + j)) 0)
 
 abbrev pub soundFrame : List ℕ → Bool
 soundFrame r =
-    leb (byteAt r 1) 3 && leb (byteAt r 2) largestCode && eqb (byteAt r 3) 0
+    leb (byteAt r 1) (largestField FrameHeard) && leb (byteAt r 2) (largestSecond FrameHeard) && eqb (byteAt r 3) 0
     && leb (identifierOf r) (largestIdentifier (hasBit (byteAt r 1) 0))
     && zerosPast r (carried (hasBit (byteAt r 1) 1) (byteAt r 2)) 8
 
--- ---- byte 1 of the other kinds goes up to this
-abbrev pub largestField : Kind → ℕ
-largestField SelectLow = 0
-largestField Exchange = 255
-largestField SelectHigh = 0
-largestField FrameHeard = 3
-largestField BusIdle = 0
-largestField FrameEnds = 2
-largestField ReceiveError = 1
-largestField Recovery = 0
-largestField PinLevel = 2
-largestField Unknown = 0
-
--- a kind with one field at most
+-- ---- a kind with two fields at most
 abbrev pub soundPlain : Kind → List ℕ → Bool
-soundPlain k r = leb (byteAt r 1) (largestField k) && zeros r 2 14
-
--- ---- kind 8: a request pin. Byte 1 is n of TXnRTS, byte 2 the level, 0 low and 1 high
-abbrev pub largestLevel : ℕ
-largestLevel = 1
-
-abbrev pub soundPin : List ℕ → Bool
-soundPin r = leb (byteAt r 1) (largestField PinLevel) && leb (byteAt r 2) largestLevel && zeros r 3 13
+soundPlain k r = leb (byteAt r 1) (largestField k) && leb (byteAt r 2) (largestSecond k) && zeros r 3 13
 
 abbrev pub soundBy : Kind → List ℕ → Bool
 soundBy SelectLow r = soundPlain SelectLow r
@@ -153,7 +163,7 @@ soundBy BusIdle r = soundPlain BusIdle r
 soundBy FrameEnds r = soundPlain FrameEnds r
 soundBy ReceiveError r = soundPlain ReceiveError r
 soundBy Recovery r = soundPlain Recovery r
-soundBy PinLevel r = soundPin r
+soundBy PinLevel r = soundPlain PinLevel r
 soundBy Unknown r = false
 
 -- Not named by refusal 2: a known kind, fields in their ranges, every other byte 0.

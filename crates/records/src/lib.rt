@@ -13,8 +13,8 @@ ghost use Rattle.records.specs.Records.{
   zerosPast,
   soundFrame,
   largestField,
+  largestSecond,
   soundPlain,
-  soundPin,
   soundOf,
   recordOf,
 };
@@ -70,11 +70,10 @@ pub const REFUSED_NO_FLIGHT: u8 = 4;
 
 pub const REFUSED_STATE: u8 = 5;
 
+pub const REFUSED_SPEAKER: u8 = 18;
+
 // A length code has four bits.
 const LARGEST_CODE: u8 = 15;
-
-// The level of a pin that is high.
-const LARGEST_LEVEL: u8 = 1;
 
 pub fn kind_by(number: u8) -> Kind
     ensures { λ r. ⌜ r ≡ kindBy number ⌝ }
@@ -220,8 +219,8 @@ fn is_sound_frame(fields: Fields) -> bool
 {
     let most = largest_identifier(fields.field % 2 == 1);
     let remote = fields.field / 2 % 2 == 1;
-    (fields.field <= 3)
-        & (fields.code <= LARGEST_CODE)
+    (fields.field <= largest_field(Kind::FrameHeard))
+        & (fields.code <= largest_second(Kind::FrameHeard))
         & (fields.spare == 0)
         & (fields.identifier <= most)
         & past_zero(fields, remote)
@@ -244,6 +243,24 @@ fn largest_field(kind: Kind) -> u8
     }
 }
 
+// Byte 2 goes up to this: who speaks, a length code, the level of a pin.
+fn largest_second(kind: Kind) -> u8
+    ensures { λ r. ⌜ r ≡ largestSecond kind ⌝ }
+{
+    match kind {
+        Kind::SelectLow => 1,
+        Kind::Exchange => 1,
+        Kind::SelectHigh => 1,
+        Kind::FrameHeard => LARGEST_CODE,
+        Kind::BusIdle => 0,
+        Kind::FrameEnds => 0,
+        Kind::ReceiveError => 0,
+        Kind::Recovery => 0,
+        Kind::PinLevel => 1,
+        Kind::Unknown => 0,
+    }
+}
+
 // Bytes 3 to 15 are 0.
 fn tail_zero(fields: Fields) -> bool
     ensures { λ r. ⌜ r ≡ zeros (recordOf fields) 3 13 ⌝ }
@@ -251,26 +268,12 @@ fn tail_zero(fields: Fields) -> bool
     (fields.spare == 0) & (fields.identifier == 0) & (fields.data == 0)
 }
 
-// Bytes 2 to 15 are 0.
-fn rest_zero(fields: Fields) -> bool
-    ensures { λ r. ⌜ r ≡ zeros (recordOf fields) 2 14 ⌝ }
-{
-    (fields.code == 0) & tail_zero(fields)
-}
-
-// A record of a kind that has no more than one field.
+// A record of a kind that has no more than two fields.
 pub fn is_sound_plain(kind: Kind, fields: Fields) -> bool
     ensures { λ r. ⌜ r ≡ soundPlain kind (recordOf fields) ⌝ }
 {
-    (fields.field <= largest_field(kind)) & rest_zero(fields)
-}
-
-// The level of a request pin.
-fn is_sound_pin(fields: Fields) -> bool
-    ensures { λ r. ⌜ r ≡ soundPin (recordOf fields) ⌝ }
-{
-    (fields.field <= largest_field(Kind::PinLevel))
-        & (fields.code <= LARGEST_LEVEL)
+    (fields.field <= largest_field(kind))
+        & (fields.code <= largest_second(kind))
         & tail_zero(fields)
 }
 
@@ -288,7 +291,7 @@ pub fn is_sound(fields: Fields) -> bool
         Kind::FrameEnds => is_sound_plain(kind, fields),
         Kind::ReceiveError => is_sound_plain(kind, fields),
         Kind::Recovery => is_sound_plain(kind, fields),
-        Kind::PinLevel => is_sound_pin(fields),
+        Kind::PinLevel => is_sound_plain(kind, fields),
         Kind::Unknown => false,
     }
 }

@@ -1,8 +1,8 @@
 -- The select line of an image after a change of its bytes, and an act with the mode request after it. Assumes nothing.
-use mathlib.Core.Path.{_≡_, refl, ap, sym, _∙_}
+use mathlib.Core.Path.{_≡_, refl, ap, sym, subst, _∙_}
 use mathlib.Core.Bool.{Bool, true, false, cond}
 use mathlib.Core.List.{List}
-use Prim.Native.Nat.{ℕ, _+_, _-_, _<_, _≤_}
+use Prim.Native.Nat.{ℕ, _+_, _≤_}
 use native.Mathlib.Omega.{arith}
 use lib.Dec.{eqb}
 use lib.ListN.{length, getD, set, drop, length-set}
@@ -15,18 +15,21 @@ use Rattle.registers.specs.declared.Pins.{Pins}
 use Rattle.registers.specs.declared.Core.{Core}
 use Rattle.registers.specs.State.{withControl, withPins}
 use Rattle.registers.specs.Modes.{settled}
-use Rattle.image.specs.Image.{imageSize, selectAt, decoded, controlOf, pinsOf, coreOf, Became, Acted}
+use Rattle.image.specs.Image.{imageSize, selectAt, controlOf, pinsOf, coreOf, Became, Acted}
 use Rattle.image.proofs.Laws.{pins-away, behind-control, high-kept}
 use Rattle.controller.specs.Events.{settledCore}
 use Rattle.spi.specs.declared.Command.{Command}
 use Rattle.spi.specs.declared.Command.the-variants.{Reset, Read, Write, BitModify, ReadRxBuffer, LoadTxBuffer, Rts, ReadStatus, RxStatus, UnknownCode}
 use Rattle.spi.specs.declared.Instruction.{Instruction}
 use Rattle.spi.specs.declared.Instruction.the-variants.{First, ReadAddress, Reading, WriteAddress, Writing, ModifyAddress, ModifyMask, ModifyData, ReadingBuffer, StatusReply, RxStatusReply, Done}
-use Rattle.spi.specs.declared.Act.the-variants.{Rest}
+use Rattle.spi.specs.declared.Act.{Act}
+use Rattle.spi.specs.declared.Act.the-variants.{Rest, ClearFlag}
+use Rattle.spi.specs.declared.Speaker.{Speaker}
+use Rattle.spi.specs.declared.Speaker.the-variants.{Controller, Panel}
 use Rattle.spi.specs.declared.Select.{Select}
 use Rattle.spi.specs.declared.Select.the-variants.{Raised, Lowered}
-use Rattle.spi.specs.Instructions.{commandOf, firstAct, exchangeAct, highAct, replyTo, refusalOf, acted}
-use Rattle.spi.specs.Open.{readingNumber, instructionBy, selectBy, selectOf, openOf, Turned, performed}
+use Rattle.spi.specs.Instructions.{speakerBy, commandBy, firstAct, exchangeAct, goesOn, actBy, clearsFlag, highAct, replyTo, refusalOf, acted}
+use Rattle.spi.specs.Open.{readingNumber, instructionBy, selectBy, selectOf, speakerOf, openOf, Turned, performed}
 
 -- ---- a byte from the select line on is none of the core
 pub select-core : (m : List ℕ) (i v : ℕ) → selectAt ≤ i → coreOf (set m i v) ≡ coreOf m
@@ -40,61 +43,92 @@ select-core m i v h =
 pub select-kept : {m n : List ℕ} {k : Core} → Became m n k → (i : ℕ) → getD n (selectAt + i) 0 ≡ getD m (selectAt + i) 0
 select-kept {m} {n} w i = sym (getD-drop selectAt n i 0) ∙ ap (λ (l : List ℕ). getD l i 0) (w .rest) ∙ getD-drop selectAt m i 0
 
-spare-kept : {m n : List ℕ} {k : Core} → Became m n k → drop 149 n ≡ drop 149 m
-spare-kept {m} {n} w = sym (drop-drop 3 selectAt n) ∙ ap (λ (l : List ℕ). drop 3 l) (w .rest) ∙ drop-drop 3 selectAt m
+spare-kept : {m n : List ℕ} {k : Core} → Became m n k → drop 150 n ≡ drop 150 m
+spare-kept {m} {n} w = sym (drop-drop 4 selectAt n) ∙ ap (λ (l : List ℕ). drop 4 l) (w .rest) ∙ drop-drop 4 selectAt m
 
 -- ---- m changed into n, which stands for the core k and has these bytes for its select line
-pub record Lined (m n : List ℕ) (k : Core) (p a q : ℕ) : Type 0 where
+pub record Lined (m n : List ℕ) (k : Core) (p a q w : ℕ) : Type 0 where
   pub size : length n ≡ imageSize
   pub core : coreOf n ≡ k
   pub number : getD n 146 0 ≡ p
   pub address : getD n 147 0 ≡ a
   pub mask : getD n 148 0 ≡ q
-  pub spare : drop 149 n ≡ drop 149 m
+  pub who : getD n 149 0 ≡ w
+  pub spare : drop 150 n ≡ drop 150 m
 
-pub lined : (m : List ℕ) → length m ≡ imageSize → Lined m m (coreOf m) (getD m 146 0) (getD m 147 0) (getD m 148 0)
-lined m e = record { size = e; core = refl; number = refl; address = refl; mask = refl; spare = refl }
+pub lined : (m : List ℕ) → length m ≡ imageSize → Lined m m (coreOf m) (getD m 146 0) (getD m 147 0) (getD m 148 0) (getD m 149 0)
+lined m e = record { size = e; core = refl; number = refl; address = refl; mask = refl; who = refl; spare = refl }
 
-pub became-lined : {m n : List ℕ} {k : Core} → Became m n k → Lined m n k (getD m 146 0) (getD m 147 0) (getD m 148 0)
-became-lined w = record { size = w .size; core = w .core; number = select-kept w 0; address = select-kept w 1; mask = select-kept w 2; spare = spare-kept w }
+pub became-lined : {m n : List ℕ} {k : Core} → Became m n k → Lined m n k (getD m 146 0) (getD m 147 0) (getD m 148 0) (getD m 149 0)
+became-lined w = record { size = w .size; core = w .core; number = select-kept w 0; address = select-kept w 1; mask = select-kept w 2; who = select-kept w 3; spare = spare-kept w }
 
-module _ {m n : List ℕ} {k : Core} {p a q : ℕ} (w : Lined m n k p a q) (v : ℕ) where
-  pub number-set : Lined m (set n 146 v) k v a q
+module _ {m n : List ℕ} {k : Core} {p a q w : ℕ} (l : Lined m n k p a q w) (v : ℕ) where
+  pub number-set : Lined m (set n 146 v) k v a q w
   number-set = record {
-    size = length-set n 146 v ∙ w .size;
-    core = select-core n 146 v (omega arith) ∙ w .core;
-    number = getD-set-same n 146 v 0 (omega (arith, w .size));
-    address = getD-set-other n 146 147 v 0 (λ e. omega arith) ∙ w .address;
-    mask = getD-set-other n 146 148 v 0 (λ e. omega arith) ∙ w .mask;
-    spare = drop-set-lt 149 n 146 v (omega arith) ∙ w .spare;
+    size = length-set n 146 v ∙ l .size;
+    core = select-core n 146 v (omega arith) ∙ l .core;
+    number = getD-set-same n 146 v 0 (omega (arith, l .size));
+    address = getD-set-other n 146 147 v 0 (λ e. omega arith) ∙ l .address;
+    mask = getD-set-other n 146 148 v 0 (λ e. omega arith) ∙ l .mask;
+    who = getD-set-other n 146 149 v 0 (λ e. omega arith) ∙ l .who;
+    spare = drop-set-lt 150 n 146 v (omega arith) ∙ l .spare;
   }
 
-  pub address-set : Lined m (set n 147 v) k p v q
+  pub address-set : Lined m (set n 147 v) k p v q w
   address-set = record {
-    size = length-set n 147 v ∙ w .size;
-    core = select-core n 147 v (omega arith) ∙ w .core;
-    number = getD-set-other n 147 146 v 0 (λ e. omega arith) ∙ w .number;
-    address = getD-set-same n 147 v 0 (omega (arith, w .size));
-    mask = getD-set-other n 147 148 v 0 (λ e. omega arith) ∙ w .mask;
-    spare = drop-set-lt 149 n 147 v (omega arith) ∙ w .spare;
+    size = length-set n 147 v ∙ l .size;
+    core = select-core n 147 v (omega arith) ∙ l .core;
+    number = getD-set-other n 147 146 v 0 (λ e. omega arith) ∙ l .number;
+    address = getD-set-same n 147 v 0 (omega (arith, l .size));
+    mask = getD-set-other n 147 148 v 0 (λ e. omega arith) ∙ l .mask;
+    who = getD-set-other n 147 149 v 0 (λ e. omega arith) ∙ l .who;
+    spare = drop-set-lt 150 n 147 v (omega arith) ∙ l .spare;
   }
 
-  pub mask-set : Lined m (set n 148 v) k p a v
+  pub mask-set : Lined m (set n 148 v) k p a v w
   mask-set = record {
-    size = length-set n 148 v ∙ w .size;
-    core = select-core n 148 v (omega arith) ∙ w .core;
-    number = getD-set-other n 148 146 v 0 (λ e. omega arith) ∙ w .number;
-    address = getD-set-other n 148 147 v 0 (λ e. omega arith) ∙ w .address;
-    mask = getD-set-same n 148 v 0 (omega (arith, w .size));
-    spare = drop-set-lt 149 n 148 v (omega arith) ∙ w .spare;
+    size = length-set n 148 v ∙ l .size;
+    core = select-core n 148 v (omega arith) ∙ l .core;
+    number = getD-set-other n 148 146 v 0 (λ e. omega arith) ∙ l .number;
+    address = getD-set-other n 148 147 v 0 (λ e. omega arith) ∙ l .address;
+    mask = getD-set-same n 148 v 0 (omega (arith, l .size));
+    who = getD-set-other n 148 149 v 0 (λ e. omega arith) ∙ l .who;
+    spare = drop-set-lt 150 n 148 v (omega arith) ∙ l .spare;
   }
 
-pub turned-by : {m n : List ℕ} {k : Core} {p a q : ℕ} → Lined m n k p a q → Turned m n k (selectBy p a q)
-turned-by w = record { size = w .size; core = w .core; select = rw (w .number, w .address, w .mask); rest = w .spare }
+  pub who-set : Lined m (set n 149 v) k p a q v
+  who-set = record {
+    size = length-set n 149 v ∙ l .size;
+    core = select-core n 149 v (omega arith) ∙ l .core;
+    number = getD-set-other n 149 146 v 0 (λ e. omega arith) ∙ l .number;
+    address = getD-set-other n 149 147 v 0 (λ e. omega arith) ∙ l .address;
+    mask = getD-set-other n 149 148 v 0 (λ e. omega arith) ∙ l .mask;
+    who = getD-set-same n 149 v 0 (omega (arith, l .size));
+    spare = drop-set-lt 150 n 149 v (omega arith) ∙ l .spare;
+  }
+
+pub turned-by : {m n : List ℕ} {k : Core} {p a q w : ℕ} → Lined m n k p a q w → Turned m n k (selectBy p a q w)
+turned-by l = record { size = l .size; core = l .core; select = rw (l .number, l .address, l .mask, l .who); rest = l .spare }
 
 -- ---- one after another
-pub then-turned : {m n p : List ℕ} {k : Core} {s : Select} → Became m n k → Turned n p (coreOf n) s → Turned m p k s
-then-turned w t = record { size = t .size; core = t .core ∙ w .core; select = t .select; rest = t .rest ∙ spare-kept w }
+pub then-turned : {m n p : List ℕ} {k : Core} {i : Instruction} → Became m n k → Turned n p (coreOf n) (Lowered (speakerOf n) i)
+    → Turned m p k (Lowered (speakerOf m) i)
+then-turned {i = i} w t = record {
+  size = t .size;
+  core = t .core ∙ w .core;
+  select = t .select ∙ ap (λ (v : ℕ). Lowered (speakerBy v) i) (select-kept w 3);
+  rest = t .rest ∙ spare-kept w;
+}
+
+-- the speaker w is put in as v, then the instruction
+pub then-put : {m n p : List ℕ} {a b q v : ℕ} {w : Speaker} {i : Instruction} → Lined m n (coreOf m) a b q v → speakerBy v ≡ w
+    → Turned n p (coreOf n) (Lowered (speakerOf n) i) → Turned m p (coreOf m) (Lowered w i)
+then-put {i = i} l e t = record {
+  size = t .size;
+  core = t .core ∙ l .core;
+  select = t .select ∙ ap (λ (z : Speaker). Lowered z i) (ap speakerBy (l .who) ∙ e);
+  rest = t .rest ∙ l .spare;
+}
 
 pub then-settled : {m n p : List ℕ} {k : Core} {s : Select} → Turned m n k s → Acted n p (withControl (coreOf n) (settled (controlOf n))) → Turned m p (settledCore k) s
 then-settled {m} {n} {p} {k} {s} t a =
@@ -102,7 +136,7 @@ then-settled {m} {n} {p} {k} {s} t a =
     record {
       size = w .size;
       core = w .core ∙ ap settledCore (t .core);
-      select = rw (select-kept w 0, select-kept w 1, select-kept w 2) (t .select);
+      select = rw (select-kept w 0, select-kept w 1, select-kept w 2, select-kept w 3) (t .select);
       rest = spare-kept w ∙ t .rest;
     }
 
@@ -119,68 +153,93 @@ first-acted ReadStatus k = refl
 first-acted RxStatus k = refl
 first-acted UnknownCode k = refl
 
-pub exchange-acted : (i : Instruction) (b : ℕ) (k : Core) → acted (exchangeAct i b) k ≡ settledCore (performed (exchangeAct i b) k)
-exchange-acted First b k = first-acted (commandOf b) k
-exchange-acted ReadAddress b k = refl
-exchange-acted (Reading a) b k = refl
-exchange-acted WriteAddress b k = refl
-exchange-acted (Writing a) b k = refl
-exchange-acted ModifyAddress b k = refl
-exchange-acted (ModifyMask a) b k = refl
-exchange-acted (ModifyData a m) b k = refl
-exchange-acted (ReadingBuffer n a) b k = refl
-exchange-acted StatusReply b k = refl
-exchange-acted RxStatusReply b k = refl
-exchange-acted Done b k = refl
+exchange-acted : (x : Command) (i : Instruction) (b : ℕ) (k : Core) → acted (exchangeAct x i b) k ≡ settledCore (performed (exchangeAct x i b) k)
+exchange-acted x First b k = first-acted x k
+exchange-acted x ReadAddress b k = refl
+exchange-acted x (Reading a) b k = refl
+exchange-acted x WriteAddress b k = refl
+exchange-acted x (Writing a) b k = refl
+exchange-acted x ModifyAddress b k = refl
+exchange-acted x (ModifyMask a) b k = refl
+exchange-acted x (ModifyData a m) b k = refl
+exchange-acted x (ReadingBuffer n a) b k = refl
+exchange-acted x StatusReply b k = refl
+exchange-acted x RxStatusReply b k = refl
+exchange-acted x Done b k = refl
 
-pub high-acted : (i : Instruction) (k : Core) → acted (highAct i) k ≡ settledCore (performed (highAct i) k)
-high-acted First k = refl
-high-acted ReadAddress k = refl
-high-acted (Reading a) k = refl
-high-acted WriteAddress k = refl
-high-acted (Writing a) k = refl
-high-acted ModifyAddress k = refl
-high-acted (ModifyMask a) k = refl
-high-acted (ModifyData a m) k = refl
-high-acted (ReadingBuffer n a) k = refl
-high-acted StatusReply k = refl
-high-acted RxStatusReply k = refl
-high-acted Done k = refl
+pub act-acted : (p : Speaker) (i : Instruction) (b : ℕ) (k : Core) → acted (actBy p i b) k ≡ settledCore (performed (actBy p i b) k)
+act-acted p i b k = go (goesOn p i)
+  where
+    go : (g : Bool) → let x : Act = cond g (exchangeAct (commandBy p b) i b) Rest in acted x k ≡ settledCore (performed x k)
+    go true = exchange-acted (commandBy p b) i b k
+    go false = refl
+
+flag-acted : (g : Bool) (n : RxBuffer) (k : Core) → let x : Act = cond g (ClearFlag n) Rest in acted x k ≡ settledCore (performed x k)
+flag-acted true n k = refl
+flag-acted false n k = refl
+
+pub high-acted : (p : Speaker) (i : Instruction) (k : Core) → acted (highAct p i) k ≡ settledCore (performed (highAct p i) k)
+high-acted p First k = refl
+high-acted p ReadAddress k = refl
+high-acted p (Reading a) k = refl
+high-acted p WriteAddress k = refl
+high-acted p (Writing a) k = refl
+high-acted p ModifyAddress k = refl
+high-acted p (ModifyMask a) k = refl
+high-acted p (ModifyData a m) k = refl
+high-acted p (ReadingBuffer n a) k = flag-acted (clearsFlag p n) n k
+high-acted p StatusReply k = refl
+high-acted p RxStatusReply k = refl
+high-acted p Done k = refl
 
 -- ---- the select line by its number
-pub open-of : (m : List ℕ) → (getD m 146 0 ≡ 0 → ⊥) → selectOf m ≡ Lowered (openOf m)
+pub open-of : (m : List ℕ) → (getD m 146 0 ≡ 0 → ⊥) → selectOf m ≡ Lowered (speakerOf m) (openOf m)
 open-of m h = rw (ne-eqb (getD m 146 0) 0 h)
 
-pub same-open : {i j : Instruction} → Lowered i ≡ Lowered j → i ≡ j
-same-open p = cc
+same-open : {p q : Speaker} {i j : Instruction} → Lowered p i ≡ Lowered q j → (p ≡ q) × (i ≡ j)
+same-open e = (cc, cc)
 
-pub not-both : {A : Type 0} {i : Instruction} → Raised ≡ Lowered i → A
-not-both p = let z : _≡_ {A = ℕ} 0 1 = cc in absurd (omega arith)
+-- what holds of one speaker and instruction holds of the other
+pub at-open : (P : Speaker → Instruction → Type 0) {p q : Speaker} {i j : Instruction} → Lowered p i ≡ Lowered q j → P p i → P q j
+at-open P {p} {q} {i} {j} e h =
+    subst (λ (w : Speaker). P w j) (same-open e .0) (subst (λ (x : Instruction). P p x) (same-open e .1) h)
 
--- ---- select high acts after READ RX BUFFER alone
-rest-cond : (b : Bool) (x y : Instruction) → highAct x ≡ Rest → highAct y ≡ Rest → highAct (cond b x y) ≡ Rest
-rest-cond true x y p q = p
-rest-cond false x y p q = q
+pub not-both : {A : Type 0} {p : Speaker} {i : Instruction} → Raised ≡ Lowered p i → A
+not-both e = let z : _≡_ {A = ℕ} 0 1 = cc in absurd (omega arith)
 
-pub quiet-high : (n a m : ℕ) → (n ≡ 9 → ⊥) → (n ≡ 10 → ⊥) → highAct (instructionBy n a m) ≡ Rest
+-- what holds of either
+pub by-cond : {A : Type 0} (P : A → Type 0) (b : Bool) {x y : A} → P x → P y → P (cond b x y)
+by-cond P true p q = p
+by-cond P false p q = q
+
+-- select high acts after READ RX BUFFER alone
+abbrev Quiet : Speaker → Instruction → Type 0
+Quiet w i = highAct w i ≡ Rest
+
+pub quiet-high : (w : Speaker) (n a m : ℕ) → (n ≡ 9 → ⊥) → (n ≡ 10 → ⊥) → Quiet w (instructionBy n a m)
 unfolding instructionBy
-quiet-high n a m p q =
+quiet-high w n a m p q =
     rw (ne-eqb n 9 p, ne-eqb n 10 q)
-    (rest-cond (eqb n 1) _ _ refl
-    (rest-cond (eqb n 2) _ _ refl
-    (rest-cond (eqb n 3) _ _ refl
-    (rest-cond (eqb n 4) _ _ refl
-    (rest-cond (eqb n 5) _ _ refl
-    (rest-cond (eqb n 6) _ _ refl
-    (rest-cond (eqb n 7) _ _ refl
-    (rest-cond (eqb n 8) _ _ refl
-    (rest-cond (eqb n 11) _ _ refl
-    (rest-cond (eqb n 12) _ _ refl refl))))))))))
+    (by-cond (Quiet w) (eqb n 1) refl
+    (by-cond (Quiet w) (eqb n 2) refl
+    (by-cond (Quiet w) (eqb n 3) refl
+    (by-cond (Quiet w) (eqb n 4) refl
+    (by-cond (Quiet w) (eqb n 5) refl
+    (by-cond (Quiet w) (eqb n 6) refl
+    (by-cond (Quiet w) (eqb n 7) refl
+    (by-cond (Quiet w) (eqb n 8) refl
+    (by-cond (Quiet w) (eqb n 11) refl
+    (by-cond (Quiet w) (eqb n 12) refl refl))))))))))
 
-pub reading-select : (b : RxBuffer) (a m : ℕ) → selectBy (readingNumber b) a m ≡ Lowered (ReadingBuffer b a)
+-- RX1IF is cleared for either speaker
+pub clears-second : (p : Speaker) → clearsFlag p Rxb1 ≡ true
+clears-second Controller = refl
+clears-second Panel = refl
+
+pub reading-select : (b : RxBuffer) (a m w : ℕ) → selectBy (readingNumber b) a m w ≡ Lowered (speakerBy w) (ReadingBuffer b a)
 unfolding instructionBy
-reading-select Rxb0 a m = refl
-reading-select Rxb1 a m = refl
+reading-select Rxb0 a m w = refl
+reading-select Rxb1 a m w = refl
 
 -- the first byte has no reply
 pub first-reply : (x : Command) (k : Core) → replyTo (firstAct x) k ≡ 0
@@ -196,8 +255,9 @@ first-reply RxStatus k = refl
 first-reply UnknownCode k = refl
 
 -- an image that stays, with its instruction by name
-pub stayed : (m : List ℕ) (i : Instruction) → length m ≡ imageSize → (getD m 146 0 ≡ 0 → ⊥) → openOf m ≡ i → Turned m m (coreOf m) (Lowered i)
-stayed m i e h p = record { size = e; core = refl; select = open-of m h ∙ ap Lowered p; rest = refl }
+pub stayed : (m : List ℕ) (i : Instruction) → length m ≡ imageSize → (getD m 146 0 ≡ 0 → ⊥) → openOf m ≡ i
+    → Turned m m (coreOf m) (Lowered (speakerOf m) i)
+stayed m i e h p = record { size = e; core = refl; select = open-of m h ∙ ap (λ (j : Instruction). Lowered (speakerOf m) j) p; rest = refl }
 
 -- ---- no act of an open instruction is refused, and select high has no reply
 first-accepted : (x : Command) → refusalOf (firstAct x) ≡ 0
@@ -212,30 +272,41 @@ first-accepted ReadStatus = refl
 first-accepted RxStatus = refl
 first-accepted UnknownCode = refl
 
-pub exchange-accepted : (i : Instruction) (b : ℕ) → refusalOf (exchangeAct i b) ≡ 0
-exchange-accepted First b = first-accepted (commandOf b)
-exchange-accepted ReadAddress b = refl
-exchange-accepted (Reading a) b = refl
-exchange-accepted WriteAddress b = refl
-exchange-accepted (Writing a) b = refl
-exchange-accepted ModifyAddress b = refl
-exchange-accepted (ModifyMask a) b = refl
-exchange-accepted (ModifyData a m) b = refl
-exchange-accepted (ReadingBuffer n a) b = refl
-exchange-accepted StatusReply b = refl
-exchange-accepted RxStatusReply b = refl
-exchange-accepted Done b = refl
+exchange-accepted : (x : Command) (i : Instruction) (b : ℕ) → refusalOf (exchangeAct x i b) ≡ 0
+exchange-accepted x First b = first-accepted x
+exchange-accepted x ReadAddress b = refl
+exchange-accepted x (Reading a) b = refl
+exchange-accepted x WriteAddress b = refl
+exchange-accepted x (Writing a) b = refl
+exchange-accepted x ModifyAddress b = refl
+exchange-accepted x (ModifyMask a) b = refl
+exchange-accepted x (ModifyData a m) b = refl
+exchange-accepted x (ReadingBuffer n a) b = refl
+exchange-accepted x StatusReply b = refl
+exchange-accepted x RxStatusReply b = refl
+exchange-accepted x Done b = refl
 
-pub high-told : (i : Instruction) (k : Core) → (refusalOf (highAct i) ≡ 0) × (replyTo (highAct i) k ≡ 0)
-high-told First k = (refl, refl)
-high-told ReadAddress k = (refl, refl)
-high-told (Reading a) k = (refl, refl)
-high-told WriteAddress k = (refl, refl)
-high-told (Writing a) k = (refl, refl)
-high-told ModifyAddress k = (refl, refl)
-high-told (ModifyMask a) k = (refl, refl)
-high-told (ModifyData a m) k = (refl, refl)
-high-told (ReadingBuffer n a) k = (refl, refl)
-high-told StatusReply k = (refl, refl)
-high-told RxStatusReply k = (refl, refl)
-high-told Done k = (refl, refl)
+pub act-accepted : (p : Speaker) (i : Instruction) (b : ℕ) → refusalOf (actBy p i b) ≡ 0
+act-accepted p i b = go (goesOn p i)
+  where
+    go : (g : Bool) → refusalOf (cond g (exchangeAct (commandBy p b) i b) Rest) ≡ 0
+    go true = exchange-accepted (commandBy p b) i b
+    go false = refl
+
+flag-told : (g : Bool) (n : RxBuffer) (k : Core) → let x : Act = cond g (ClearFlag n) Rest in (refusalOf x ≡ 0) × (replyTo x k ≡ 0)
+flag-told true n k = (refl, refl)
+flag-told false n k = (refl, refl)
+
+pub high-told : (p : Speaker) (i : Instruction) (k : Core) → (refusalOf (highAct p i) ≡ 0) × (replyTo (highAct p i) k ≡ 0)
+high-told p First k = (refl, refl)
+high-told p ReadAddress k = (refl, refl)
+high-told p (Reading a) k = (refl, refl)
+high-told p WriteAddress k = (refl, refl)
+high-told p (Writing a) k = (refl, refl)
+high-told p ModifyAddress k = (refl, refl)
+high-told p (ModifyMask a) k = (refl, refl)
+high-told p (ModifyData a m) k = (refl, refl)
+high-told p (ReadingBuffer n a) k = flag-told (clearsFlag p n) n k
+high-told p StatusReply k = (refl, refl)
+high-told p RxStatusReply k = (refl, refl)
+high-told p Done k = (refl, refl)

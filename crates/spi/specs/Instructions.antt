@@ -1,19 +1,22 @@
 -- Instructions: the SPI side as an automaton. A byte and the open instruction give the next open instruction and one act on the core.
 use Prim.Native.Nat.{ℕ, _+_, _/_, _%_}
-use mathlib.Core.Bool.{cond}
+use mathlib.Core.Bool.{Bool, true, false, cond, _&&_}
 use lib.Dec.{eqb, ltb}
 use lib.Bits.{bitOr}
 use lib.ListN.{getD}
 use Rattle.bits.specs.Bit.{hasBit, clearBit}
+use Rattle.registers.specs.declared.TxBuffer.{TxBuffer}
 use Rattle.registers.specs.declared.TxBuffer.the-variants.{Txb0, Txb1, Txb2}
 use Rattle.registers.specs.declared.RxBuffer.{RxBuffer}
 use Rattle.registers.specs.declared.RxBuffer.the-variants.{Rxb0, Rxb1}
 use Rattle.registers.specs.declared.Control.{Control}
 use Rattle.registers.specs.declared.Core.{Core}
-use Rattle.registers.specs.State.{RX0IF, RX1IF, TX0IF, TX1IF, TX2IF, TXREQ, RXRTR, rxFlag, withCanintf, withControl}
+use Rattle.registers.specs.State.{RX0IF, RX1IF, TX0IF, TX1IF, TX2IF, TXREQ, RXRTR, rxFlag, rtsBit, withCanintf, withControl}
 use Rattle.registers.specs.Registers.{reads, resetCore}
 use Rattle.stores.specs.Store.{stored, modified, requestedToSend}
 use Rattle.controller.specs.Events.{settledCore}
+use Rattle.spi.specs.declared.Speaker.{Speaker}
+use Rattle.spi.specs.declared.Speaker.the-variants.{Controller, Panel}
 use Rattle.spi.specs.declared.Command.{Command}
 use Rattle.spi.specs.declared.Command.the-variants.{Reset, Read, Write, BitModify, ReadRxBuffer, LoadTxBuffer, Rts, ReadStatus, RxStatus, UnknownCode}
 use Rattle.spi.specs.declared.Instruction.{Instruction}
@@ -73,53 +76,125 @@ opened ReadStatus = StatusReply
 opened RxStatus = RxStatusReply
 opened UnknownCode = Done
 
--- ---- an exchange; an address is taken modulo 128
+-- ---- who speaks: byte 2 of a record, 0 the controller and 1 the panel
+abbrev pub speakerBy : ℕ → Speaker
+speakerBy n = cond (eqb n 0) Controller Panel
+
+abbrev pub sameSpeaker : Speaker → Speaker → Bool
+sameSpeaker Controller Controller = true
+sameSpeaker Controller Panel = false
+sameSpeaker Panel Controller = false
+sameSpeaker Panel Panel = true
+
+-- the buffers that are open to the panel: RXB1 to read and TXB2 to load and request
+abbrev pub panelReads : RxBuffer → Bool
+panelReads Rxb0 = false
+panelReads Rxb1 = true
+
+abbrev pub panelLoads : TxBuffer → Bool
+panelLoads Txb0 = false
+panelLoads Txb1 = false
+panelLoads Txb2 = true
+
+-- the panel may READ, ask both statuses, READ RX BUFFER for RXB1, LOAD TXB2 and RTS by 84h; any other code is none to it
+abbrev pub permitted : Command → Command
+permitted Reset = UnknownCode
+permitted Read = Read
+permitted Write = UnknownCode
+permitted BitModify = UnknownCode
+permitted (ReadRxBuffer b a) = cond (panelReads b) (ReadRxBuffer b a) UnknownCode
+permitted (LoadTxBuffer b a) = cond (panelLoads b) (LoadTxBuffer b a) UnknownCode
+permitted (Rts m) = cond (eqb m (rtsBit Txb2)) (Rts m) UnknownCode
+permitted ReadStatus = ReadStatus
+permitted RxStatus = RxStatus
+permitted UnknownCode = UnknownCode
+
+abbrev pub commandBy : Speaker → ℕ → Command
+commandBy Controller b = commandOf b
+commandBy Panel b = permitted (commandOf b)
+
+-- SIDH to data byte 7 of the buffer whose control register stands at c
+abbrev pub inMessage : ℕ → ℕ → Bool
+inMessage c a = ltb c (a % 128) && ltb (a % 128) (c + 14)
+
+-- The panel goes on with what it may have opened, READ RX BUFFER and LOAD TX BUFFER as far as data byte 7. Past it, and on a chip that no
+-- run reaches, its instruction has nothing more to do.
+abbrev pub panelGoesOn : Instruction → Bool
+panelGoesOn First = true
+panelGoesOn ReadAddress = true
+panelGoesOn (Reading a) = true
+panelGoesOn WriteAddress = false
+panelGoesOn (Writing a) = inMessage 0x50 a
+panelGoesOn ModifyAddress = false
+panelGoesOn (ModifyMask a) = false
+panelGoesOn (ModifyData a m) = false
+panelGoesOn (ReadingBuffer n a) = panelReads n && inMessage 0x70 a
+panelGoesOn StatusReply = true
+panelGoesOn RxStatusReply = true
+panelGoesOn Done = true
+
+abbrev pub goesOn : Speaker → Instruction → Bool
+goesOn Controller i = true
+goesOn Panel i = panelGoesOn i
+
+-- ---- an exchange, whose byte names the command x if it is the first; an address is taken modulo 128
 abbrev pub rising : ℕ → ℕ
 rising a = (a % 128 + 1) % 128
 
 -- WRITE stores byte by byte, BIT MODIFY waits for its data byte, a status repeats; an instruction that is done ignores further bytes
-abbrev pub exchangeAct : Instruction → ℕ → Act
-exchangeAct First b = firstAct (commandOf b)
-exchangeAct ReadAddress b = Rest
-exchangeAct (Reading a) b = Fetch a
-exchangeAct WriteAddress b = Rest
-exchangeAct (Writing a) b = Store a b
-exchangeAct ModifyAddress b = Rest
-exchangeAct (ModifyMask a) b = Rest
-exchangeAct (ModifyData a m) b = Modify a m b
-exchangeAct (ReadingBuffer n a) b = Fetch a
-exchangeAct StatusReply b = FetchStatus
-exchangeAct RxStatusReply b = FetchRxStatus
-exchangeAct Done b = Rest
+abbrev pub exchangeAct : Command → Instruction → ℕ → Act
+exchangeAct x First b = firstAct x
+exchangeAct x ReadAddress b = Rest
+exchangeAct x (Reading a) b = Fetch a
+exchangeAct x WriteAddress b = Rest
+exchangeAct x (Writing a) b = Store a b
+exchangeAct x ModifyAddress b = Rest
+exchangeAct x (ModifyMask a) b = Rest
+exchangeAct x (ModifyData a m) b = Modify a m b
+exchangeAct x (ReadingBuffer n a) b = Fetch a
+exchangeAct x StatusReply b = FetchStatus
+exchangeAct x RxStatusReply b = FetchRxStatus
+exchangeAct x Done b = Rest
 
-abbrev pub exchangeNext : Instruction → ℕ → Instruction
-exchangeNext First b = opened (commandOf b)
-exchangeNext ReadAddress b = Reading (b % 128)
-exchangeNext (Reading a) b = Reading (rising a)
-exchangeNext WriteAddress b = Writing (b % 128)
-exchangeNext (Writing a) b = Writing (rising a)
-exchangeNext ModifyAddress b = ModifyMask (b % 128)
-exchangeNext (ModifyMask a) b = ModifyData a b
-exchangeNext (ModifyData a m) b = Done
-exchangeNext (ReadingBuffer n a) b = ReadingBuffer n (rising a)
-exchangeNext StatusReply b = StatusReply
-exchangeNext RxStatusReply b = RxStatusReply
-exchangeNext Done b = Done
+abbrev pub exchangeNext : Command → Instruction → ℕ → Instruction
+exchangeNext x First b = opened x
+exchangeNext x ReadAddress b = Reading (b % 128)
+exchangeNext x (Reading a) b = Reading (rising a)
+exchangeNext x WriteAddress b = Writing (b % 128)
+exchangeNext x (Writing a) b = Writing (rising a)
+exchangeNext x ModifyAddress b = ModifyMask (b % 128)
+exchangeNext x (ModifyMask a) b = ModifyData a b
+exchangeNext x (ModifyData a m) b = Done
+exchangeNext x (ReadingBuffer n a) b = ReadingBuffer n (rising a)
+exchangeNext x StatusReply b = StatusReply
+exchangeNext x RxStatusReply b = RxStatusReply
+exchangeNext x Done b = Done
+
+-- what a byte of the speaker asks, and the instruction after it
+abbrev pub actBy : Speaker → Instruction → ℕ → Act
+actBy p i b = cond (goesOn p i) (exchangeAct (commandBy p b) i b) Rest
+
+abbrev pub nextBy : Speaker → Instruction → ℕ → Instruction
+nextBy p i b = cond (goesOn p i) (exchangeNext (commandBy p b) i b) i
 
 -- ---- select high: after READ RX BUFFER it clears that RXnIF
-abbrev pub highAct : Instruction → Act
-highAct First = Rest
-highAct ReadAddress = Rest
-highAct (Reading a) = Rest
-highAct WriteAddress = Rest
-highAct (Writing a) = Rest
-highAct ModifyAddress = Rest
-highAct (ModifyMask a) = Rest
-highAct (ModifyData a m) = Rest
-highAct (ReadingBuffer n a) = ClearFlag n
-highAct StatusReply = Rest
-highAct RxStatusReply = Rest
-highAct Done = Rest
+abbrev pub clearsFlag : Speaker → RxBuffer → Bool
+clearsFlag Controller n = true
+clearsFlag Panel n = panelReads n
+
+abbrev pub highAct : Speaker → Instruction → Act
+highAct p First = Rest
+highAct p ReadAddress = Rest
+highAct p (Reading a) = Rest
+highAct p WriteAddress = Rest
+highAct p (Writing a) = Rest
+highAct p ModifyAddress = Rest
+highAct p (ModifyMask a) = Rest
+highAct p (ModifyData a m) = Rest
+highAct p (ReadingBuffer n a) = cond (clearsFlag p n) (ClearFlag n) Rest
+highAct p StatusReply = Rest
+highAct p RxStatusReply = Rest
+highAct p Done = Rest
 
 -- ---- the two statuses
 -- A0h: RX0IF and RX1IF in bits 0 and 1; above them a pair TXREQ, TXnIF for each of TXB0, TXB1 and TXB2

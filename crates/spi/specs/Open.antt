@@ -12,13 +12,14 @@ use Rattle.registers.specs.State.{withControl}
 use Rattle.registers.specs.Registers.{resetCore}
 use Rattle.stores.specs.Store.{stored, modified, requestedToSend}
 use Rattle.image.specs.Image.{imageSize, coreOf}
+use Rattle.spi.specs.declared.Speaker.{Speaker}
 use Rattle.spi.specs.declared.Select.{Select}
 use Rattle.spi.specs.declared.Select.the-variants.{Raised, Lowered}
 use Rattle.spi.specs.declared.Instruction.{Instruction}
 use Rattle.spi.specs.declared.Instruction.the-variants.{First, ReadAddress, Reading, WriteAddress, Writing, ModifyAddress, ModifyMask, ModifyData, ReadingBuffer, StatusReply, RxStatusReply, Done}
 use Rattle.spi.specs.declared.Act.{Act}
 use Rattle.spi.specs.declared.Act.the-variants.{Rest, ResetAll, Fetch, Store, Modify, RequestToSend, ClearFlag, FetchStatus, FetchRxStatus, Refuse}
-use Rattle.spi.specs.Instructions.{exchangeAct, exchangeNext, highAct, acted, replyTo, clearedOf}
+use Rattle.spi.specs.Instructions.{speakerBy, actBy, nextBy, highAct, acted, replyTo, clearedOf}
 
 -- ---- the open instruction by a number, with an address a and a mask m where it has them; from 13 on it is done
 unfoldable pub instructionBy : ℕ → ℕ → ℕ → Instruction
@@ -41,13 +42,16 @@ abbrev pub readingNumber : RxBuffer → ℕ
 readingNumber Rxb0 = 9
 readingNumber Rxb1 = 10
 
--- 0 stands for a select that is high
-abbrev pub selectBy : ℕ → ℕ → ℕ → Select
-selectBy n a m = cond (eqb n 0) Raised (Lowered (instructionBy n a m))
+-- 0 stands for a select that is high, of nobody; w is who selected
+abbrev pub selectBy : ℕ → ℕ → ℕ → ℕ → Select
+selectBy n a m w = cond (eqb n 0) Raised (Lowered (speakerBy w) (instructionBy n a m))
 
--- ---- the select line of an image: its number, then the address, then the mask
+-- ---- the select line of an image: its number, then the address, the mask and who selected
 abbrev pub selectOf : List ℕ → Select
-selectOf m = selectBy (getD m 146 0) (getD m 147 0) (getD m 148 0)
+selectOf m = selectBy (getD m 146 0) (getD m 147 0) (getD m 148 0) (getD m 149 0)
+
+abbrev pub speakerOf : List ℕ → Speaker
+speakerOf m = speakerBy (getD m 149 0)
 
 abbrev pub openOf : List ℕ → Instruction
 openOf m = instructionBy (getD m 146 0) (getD m 147 0) (getD m 148 0)
@@ -57,7 +61,7 @@ pub record Turned (m n : List ℕ) (k : Core) (s : Select) : Type 0 where
   pub size : length n ≡ imageSize
   pub core : coreOf n ≡ k
   pub select : selectOf n ≡ s
-  pub rest : drop 149 n ≡ drop 149 m
+  pub rest : drop 150 n ≡ drop 150 m
 
 -- what an act does before the mode request
 abbrev pub performed : Act → Core → Core
@@ -75,20 +79,20 @@ performed (Refuse n) k = k
 -- ---- what the calls promise
 -- an exchange over an image whose select is low; any other bytes stay, and the reply is 0
 pub record Exchanged (m n : List ℕ) (b r : ℕ) : Type 0 where
-  pub reply : length m ≡ imageSize → (i : Instruction) → selectOf m ≡ Lowered i → r ≡ replyTo (exchangeAct i b) (coreOf m)
-  pub image : length m ≡ imageSize → (i : Instruction) → selectOf m ≡ Lowered i
-      → Turned m n (acted (exchangeAct i b) (coreOf m)) (Lowered (exchangeNext i b))
+  pub reply : length m ≡ imageSize → (p : Speaker) (i : Instruction) → selectOf m ≡ Lowered p i → r ≡ replyTo (actBy p i b) (coreOf m)
+  pub image : length m ≡ imageSize → (p : Speaker) (i : Instruction) → selectOf m ≡ Lowered p i
+      → Turned m n (acted (actBy p i b) (coreOf m)) (Lowered p (nextBy p i b))
   pub raised : selectOf m ≡ Raised → (r ≡ 0) × (n ≡ m)
   pub other : (length m ≡ imageSize → ⊥) → (r ≡ 0) × (n ≡ m)
 
--- select low, over a select that is high or low: the instruction begins anew
-pub record Opened (m n : List ℕ) : Type 0 where
-  pub image : length m ≡ imageSize → Turned m n (acted Rest (coreOf m)) (Lowered First)
+-- select low by the speaker w, over a select that is high or low: the instruction begins anew
+pub record Opened (m n : List ℕ) (w : ℕ) : Type 0 where
+  pub image : length m ≡ imageSize → Turned m n (acted Rest (coreOf m)) (Lowered (speakerBy w) First)
   pub other : (length m ≡ imageSize → ⊥) → n ≡ m
 
 -- select high
 pub record Closed (m n : List ℕ) : Type 0 where
-  pub image : length m ≡ imageSize → Turned m n (acted (highAct (openOf m)) (coreOf m)) Raised
+  pub image : length m ≡ imageSize → Turned m n (acted (highAct (speakerOf m) (openOf m)) (coreOf m)) Raised
   pub other : (length m ≡ imageSize → ⊥) → n ≡ m
 
 -- a select line put in

@@ -10,14 +10,18 @@ ghost use Rattle.spi.specs.Instructions.{
   firstAct,
   opened,
   rising,
+  commandBy,
   exchangeAct,
   exchangeNext,
+  actBy,
+  nextBy,
   highAct,
   replyTo,
 };
 ghost use Rattle.spi.specs.Open.{
   readingNumber,
   selectBy,
+  speakerOf,
   openOf,
   Turned,
   performed,
@@ -29,7 +33,9 @@ use crate::Act;
 use crate::Command;
 use crate::Instruction;
 use crate::Select;
-use crate::codes::command_of;
+use crate::codes::CONTROLLER;
+use crate::codes::command_by;
+use crate::codes::goes_on;
 use crate::statuses::rx_status;
 use crate::statuses::status;
 use image::ADDRESS;
@@ -37,6 +43,7 @@ use image::CANINTF;
 use image::MASK;
 use image::SELECT;
 use image::SIZE;
+use image::SPEAKER;
 use registers::RX0IF;
 use registers::RX1IF;
 use registers::RxBuffer;
@@ -74,7 +81,7 @@ pub const DONE: u8 = 13;
 pub fn turn(image: &mut [u8], number: u8) -> u8
     requires { ⌜ length (now image) ≡ imageSize ⌝ }
     ensures { λ r. ⌜ r ≡ 0 ⌝ }
-    ensures { λ _. ⌜ Turned (now (image .entry)) (now (image .exit)) (coreOf (now (image .entry))) (selectBy number (getD (now (image .entry)) 147 0) (getD (now (image .entry)) 148 0)) ⌝ }
+    ensures { λ _. ⌜ Turned (now (image .entry)) (now (image .exit)) (coreOf (now (image .entry))) (selectBy number (getD (now (image .entry)) 147 0) (getD (now (image .entry)) 148 0) (getD (now (image .entry)) 149 0)) ⌝ }
 {
     image[SELECT] = number;
     0
@@ -83,7 +90,7 @@ pub fn turn(image: &mut [u8], number: u8) -> u8
 pub fn turn_to(image: &mut [u8], number: u8, address: u8) -> u8
     requires { ⌜ length (now image) ≡ imageSize ⌝ }
     ensures { λ r. ⌜ r ≡ 0 ⌝ }
-    ensures { λ _. ⌜ Turned (now (image .entry)) (now (image .exit)) (coreOf (now (image .entry))) (selectBy number address (getD (now (image .entry)) 148 0)) ⌝ }
+    ensures { λ _. ⌜ Turned (now (image .entry)) (now (image .exit)) (coreOf (now (image .entry))) (selectBy number address (getD (now (image .entry)) 148 0) (getD (now (image .entry)) 149 0)) ⌝ }
 {
     image[SELECT] = number;
     image[ADDRESS] = address;
@@ -93,7 +100,7 @@ pub fn turn_to(image: &mut [u8], number: u8, address: u8) -> u8
 pub fn keep_mask(image: &mut [u8], mask: u8) -> u8
     requires { ⌜ length (now image) ≡ imageSize ⌝ }
     ensures { λ r. ⌜ r ≡ 0 ⌝ }
-    ensures { λ _. ⌜ Turned (now (image .entry)) (now (image .exit)) (coreOf (now (image .entry))) (selectBy 8 (getD (now (image .entry)) 147 0) mask) ⌝ }
+    ensures { λ _. ⌜ Turned (now (image .entry)) (now (image .exit)) (coreOf (now (image .entry))) (selectBy 8 (getD (now (image .entry)) 147 0) mask (getD (now (image .entry)) 149 0)) ⌝ }
 {
     image[SELECT] = MODIFY_DATA;
     image[MASK] = mask;
@@ -112,7 +119,7 @@ pub fn reading(buffer: RxBuffer) -> u8
 fn start_over(image: &mut [u8]) -> u8
     requires { ⌜ length (now image) ≡ imageSize ⌝ }
     ensures { λ r. ⌜ r ≡ 0 ⌝ }
-    ensures { λ _. ⌜ Turned (now (image .entry)) (now (image .exit)) (performed Act.ResetAll (coreOf (now (image .entry)))) (Select.Lowered Instruction.Done) ⌝ }
+    ensures { λ _. ⌜ Turned (now (image .entry)) (now (image .exit)) (performed Act.ResetAll (coreOf (now (image .entry)))) (Select.Lowered (speakerOf (now (image .entry))) Instruction.Done) ⌝ }
 {
     image::reset(image);
     turn(image, DONE)
@@ -121,7 +128,7 @@ fn start_over(image: &mut [u8]) -> u8
 fn request(image: &mut [u8], buffers: u8) -> u8
     requires { ⌜ length (now image) ≡ imageSize ⌝ }
     ensures { λ r. ⌜ r ≡ 0 ⌝ }
-    ensures { λ _. ⌜ Turned (now (image .entry)) (now (image .exit)) (performed (Act.RequestToSend buffers) (coreOf (now (image .entry)))) (Select.Lowered Instruction.Done) ⌝ }
+    ensures { λ _. ⌜ Turned (now (image .entry)) (now (image .exit)) (performed (Act.RequestToSend buffers) (coreOf (now (image .entry)))) (Select.Lowered (speakerOf (now (image .entry))) Instruction.Done) ⌝ }
 {
     stores::request_to_send(image, buffers);
     turn(image, DONE)
@@ -131,7 +138,7 @@ fn request(image: &mut [u8], buffers: u8) -> u8
 fn begin(image: &mut [u8], command: Command) -> u8
     requires { ⌜ length (now image) ≡ imageSize ⌝ }
     ensures { λ r. ⌜ r ≡ 0 ⌝ }
-    ensures { λ _. ⌜ Turned (now (image .entry)) (now (image .exit)) (performed (firstAct command) (coreOf (now (image .entry)))) (Select.Lowered (opened command)) ⌝ }
+    ensures { λ _. ⌜ Turned (now (image .entry)) (now (image .exit)) (performed (firstAct command) (coreOf (now (image .entry)))) (Select.Lowered (speakerOf (now (image .entry))) (opened command)) ⌝ }
 {
     match command {
         Command::Reset => start_over(image),
@@ -147,6 +154,15 @@ fn begin(image: &mut [u8], command: Command) -> u8
     }
 }
 
+fn start(image: &mut [u8], code: u8) -> u8
+    requires { ⌜ length (now image) ≡ imageSize ⌝ }
+    ensures { λ r. ⌜ r ≡ 0 ⌝ }
+    ensures { λ _. ⌜ Turned (now (image .entry)) (now (image .exit)) (performed (firstAct (commandBy (speakerOf (now (image .entry))) code)) (coreOf (now (image .entry)))) (Select.Lowered (speakerOf (now (image .entry))) (opened (commandBy (speakerOf (now (image .entry))) code))) ⌝ }
+{
+    let speaker = image[SPEAKER];
+    begin(image, command_by(speaker, code))
+}
+
 fn rise(address: u8) -> u8
     ensures { λ r. ⌜ r ≡ rising address ⌝ }
 {
@@ -157,7 +173,7 @@ fn rise(address: u8) -> u8
 fn fetch(image: &mut [u8]) -> u8
     requires { ⌜ length (now image) ≡ imageSize ⌝ }
     ensures { λ r. ⌜ r ≡ reads (coreOf (now (image .entry))) (getD (now (image .entry)) 147 0) ⌝ }
-    ensures { λ _. ⌜ Turned (now (image .entry)) (now (image .exit)) (coreOf (now (image .entry))) (selectBy (getD (now (image .entry)) 146 0) (rising (getD (now (image .entry)) 147 0)) (getD (now (image .entry)) 148 0)) ⌝ }
+    ensures { λ _. ⌜ Turned (now (image .entry)) (now (image .exit)) (coreOf (now (image .entry))) (selectBy (getD (now (image .entry)) 146 0) (rising (getD (now (image .entry)) 147 0)) (getD (now (image .entry)) 148 0) (getD (now (image .entry)) 149 0)) ⌝ }
 {
     let address = image[ADDRESS];
     let reply = image::read(image, address);
@@ -169,7 +185,7 @@ fn fetch(image: &mut [u8]) -> u8
 fn write(image: &mut [u8], byte: u8) -> u8
     requires { ⌜ length (now image) ≡ imageSize ⌝ }
     ensures { λ r. ⌜ r ≡ 0 ⌝ }
-    ensures { λ _. ⌜ Turned (now (image .entry)) (now (image .exit)) (stored (coreOf (now (image .entry))) (getD (now (image .entry)) 147 0) byte) (selectBy (getD (now (image .entry)) 146 0) (rising (getD (now (image .entry)) 147 0)) (getD (now (image .entry)) 148 0)) ⌝ }
+    ensures { λ _. ⌜ Turned (now (image .entry)) (now (image .exit)) (stored (coreOf (now (image .entry))) (getD (now (image .entry)) 147 0) byte) (selectBy (getD (now (image .entry)) 146 0) (rising (getD (now (image .entry)) 147 0)) (getD (now (image .entry)) 148 0) (getD (now (image .entry)) 149 0)) ⌝ }
 {
     let address = image[ADDRESS];
     stores::store(image, address, byte);
@@ -181,7 +197,7 @@ fn write(image: &mut [u8], byte: u8) -> u8
 fn change(image: &mut [u8], byte: u8) -> u8
     requires { ⌜ length (now image) ≡ imageSize ⌝ }
     ensures { λ r. ⌜ r ≡ 0 ⌝ }
-    ensures { λ _. ⌜ Turned (now (image .entry)) (now (image .exit)) (modified (coreOf (now (image .entry))) (getD (now (image .entry)) 147 0) (getD (now (image .entry)) 148 0) byte) (Select.Lowered Instruction.Done) ⌝ }
+    ensures { λ _. ⌜ Turned (now (image .entry)) (now (image .exit)) (modified (coreOf (now (image .entry))) (getD (now (image .entry)) 147 0) (getD (now (image .entry)) 148 0) byte) (Select.Lowered (speakerOf (now (image .entry))) Instruction.Done) ⌝ }
 {
     let address = image[ADDRESS];
     let mask = image[MASK];
@@ -189,15 +205,15 @@ fn change(image: &mut [u8], byte: u8) -> u8
     turn(image, DONE)
 }
 
-// An exchange before a mode request is carried out.
+// An exchange of an instruction that goes on, before a mode request is carried out.
 fn exchange_open(image: &mut [u8], byte: u8) -> u8
     requires { ⌜ (length (now image) ≡ imageSize) × (getD (now image) 146 0 ≡ 0 → ⊥) ⌝ }
-    ensures { λ r. ⌜ r ≡ replyTo (exchangeAct (openOf (now (image .entry))) byte) (coreOf (now (image .entry))) ⌝ }
-    ensures { λ _. ⌜ Turned (now (image .entry)) (now (image .exit)) (performed (exchangeAct (openOf (now (image .entry))) byte) (coreOf (now (image .entry)))) (Select.Lowered (exchangeNext (openOf (now (image .entry))) byte)) ⌝ }
+    ensures { λ r. ⌜ r ≡ replyTo (exchangeAct (commandBy (speakerOf (now (image .entry))) byte) (openOf (now (image .entry))) byte) (coreOf (now (image .entry))) ⌝ }
+    ensures { λ _. ⌜ Turned (now (image .entry)) (now (image .exit)) (performed (exchangeAct (commandBy (speakerOf (now (image .entry))) byte) (openOf (now (image .entry))) byte) (coreOf (now (image .entry)))) (Select.Lowered (speakerOf (now (image .entry))) (exchangeNext (commandBy (speakerOf (now (image .entry))) byte) (openOf (now (image .entry))) byte)) ⌝ }
 {
     let number = image[SELECT];
     match number {
-        1 => begin(image, command_of(byte)),
+        1 => start(image, byte),
         2 => turn_to(image, READING, byte % 128),
         3 => fetch(image),
         4 => turn_to(image, WRITING, byte % 128),
@@ -213,6 +229,18 @@ fn exchange_open(image: &mut [u8], byte: u8) -> u8
     }
 }
 
+// An exchange by whoever selected; it does nothing where the open instruction has nothing more for them.
+fn exchange_by(image: &mut [u8], byte: u8) -> u8
+    requires { ⌜ (length (now image) ≡ imageSize) × (getD (now image) 146 0 ≡ 0 → ⊥) ⌝ }
+    ensures { λ r. ⌜ r ≡ replyTo (actBy (speakerOf (now (image .entry))) (openOf (now (image .entry))) byte) (coreOf (now (image .entry))) ⌝ }
+    ensures { λ _. ⌜ Turned (now (image .entry)) (now (image .exit)) (performed (actBy (speakerOf (now (image .entry))) (openOf (now (image .entry))) byte) (coreOf (now (image .entry)))) (Select.Lowered (speakerOf (now (image .entry))) (nextBy (speakerOf (now (image .entry))) (openOf (now (image .entry))) byte)) ⌝ }
+{
+    if goes_on(image[SPEAKER], image[SELECT], image[ADDRESS]) {
+        return exchange_open(image, byte);
+    }
+    0
+}
+
 // One exchange over a select that is low; the reply is sampled before the act.
 pub fn exchange(image: &mut [u8], byte: u8) -> u8
     ensures { λ r. ⌜ Exchanged (now (image .entry)) (now (image .exit)) byte r ⌝ }
@@ -223,19 +251,20 @@ pub fn exchange(image: &mut [u8], byte: u8) -> u8
     if image[SELECT] == RAISED {
         return 0;
     }
-    let reply = exchange_open(image, byte);
+    let reply = exchange_by(image, byte);
     image::settle_if_asked(image);
     reply
 }
 
-// Select low.
-pub fn open(image: &mut [u8])
-    ensures { λ _. ⌜ Opened (now (image .entry)) (now (image .exit)) ⌝ }
+// Select low by a speaker.
+pub fn open(image: &mut [u8], speaker: u8)
+    ensures { λ _. ⌜ Opened (now (image .entry)) (now (image .exit)) speaker ⌝ }
 {
     if image.len() != SIZE {
         return;
     }
     image[SELECT] = FIRST;
+    image[SPEAKER] = speaker;
     image::settle_if_asked(image);
 }
 
@@ -246,14 +275,18 @@ fn clear(image: &mut [u8], flag: u8)
     image[CANINTF] = image[CANINTF] & !flag;
 }
 
-// After READ RX BUFFER that RXnIF is cleared.
+// After READ RX BUFFER that RXnIF is cleared; the panel reads RXB1 alone.
 fn end_reading(image: &mut [u8])
     requires { ⌜ length (now image) ≡ imageSize ⌝ }
-    ensures { λ _. ⌜ Became (now (image .entry)) (now (image .exit)) (performed (highAct (openOf (now (image .entry)))) (coreOf (now (image .entry)))) ⌝ }
+    ensures { λ _. ⌜ Became (now (image .entry)) (now (image .exit)) (performed (highAct (speakerOf (now (image .entry))) (openOf (now (image .entry)))) (coreOf (now (image .entry)))) ⌝ }
 {
     let number = image[SELECT];
     match number {
-        9 => clear(image, RX0IF),
+        9 => {
+            if image[SPEAKER] == CONTROLLER {
+                clear(image, RX0IF);
+            }
+        }
         10 => clear(image, RX1IF),
         _ => {}
     }

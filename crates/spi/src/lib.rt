@@ -4,11 +4,18 @@ mod exchanges;
 mod lines;
 mod statuses;
 
+pub use codes::is_same;
 pub use exchanges::close;
 pub use exchanges::exchange;
 pub use exchanges::open;
 pub use lines::put_select;
 pub use lines::select_of;
+
+// Who drives the SPI lines.
+pub enum Speaker {
+    Controller,
+    Panel,
+}
 
 // What the next exchange is for.
 pub enum Instruction {
@@ -54,8 +61,8 @@ pub enum Act {
     Refuse(u8),
 }
 
-// The select line, and the open instruction while it is low.
+// The select line, and while it is low who selected and the open instruction.
 pub enum Select {
     Raised,
-    Lowered(Instruction),
+    Lowered(Speaker, Instruction),
 }

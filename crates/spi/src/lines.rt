@@ -2,9 +2,13 @@
 ghost use mathlib.Core.Path.{_≡_};
 ghost use lib.ListN.{length};
 ghost use Rattle.image.specs.Image.{imageSize, coreOf, Answered};
-ghost use Rattle.spi.specs.Open.{instructionBy, selectOf, Turned, Selected};
+ghost use Rattle.spi.specs.Instructions.{speakerBy};
+ghost use Rattle.spi.specs.Open.{instructionBy, selectOf, speakerOf, Turned, Selected};
 use crate::Instruction;
 use crate::Select;
+use crate::Speaker;
+use crate::codes::CONTROLLER;
+use crate::codes::PANEL;
 use crate::exchanges::DONE;
 use crate::exchanges::FIRST;
 use crate::exchanges::MODIFY_ADDRESS;
@@ -24,6 +28,7 @@ use image::ADDRESS;
 use image::MASK;
 use image::SELECT;
 use image::SIZE;
+use image::SPEAKER;
 use registers::RxBuffer;
 
 fn instruction_by(number: u8, address: u8, mask: u8) -> Instruction
@@ -46,6 +51,16 @@ fn instruction_by(number: u8, address: u8, mask: u8) -> Instruction
     }
 }
 
+fn speaker_by(number: u8) -> Speaker
+    ensures { λ r. ⌜ r ≡ speakerBy number ⌝ }
+{
+    if number == CONTROLLER {
+        Speaker::Controller
+    } else {
+        Speaker::Panel
+    }
+}
+
 // The select line of an image; of other bytes it is high.
 pub fn select_of(image: &[u8]) -> Select
     ensures { λ r. ⌜ Answered (now (image .entry)) r (selectOf (now (image .entry))) Select.Raised ⌝ }
@@ -56,13 +71,17 @@ pub fn select_of(image: &[u8]) -> Select
     if image[SELECT] == RAISED {
         return Select::Raised;
     }
-    Select::Lowered(instruction_by(image[SELECT], image[ADDRESS], image[MASK]))
+    let speaker = speaker_by(image[SPEAKER]);
+    Select::Lowered(
+        speaker,
+        instruction_by(image[SELECT], image[ADDRESS], image[MASK]),
+    )
 }
 
 fn put_data(image: &mut [u8], address: u8, mask: u8) -> u8
     requires { ⌜ length (now image) ≡ imageSize ⌝ }
     ensures { λ r. ⌜ r ≡ 0 ⌝ }
-    ensures { λ _. ⌜ Turned (now (image .entry)) (now (image .exit)) (coreOf (now (image .entry))) (Select.Lowered (Instruction.ModifyData address mask)) ⌝ }
+    ensures { λ _. ⌜ Turned (now (image .entry)) (now (image .exit)) (coreOf (now (image .entry))) (Select.Lowered (speakerOf (now (image .entry))) (Instruction.ModifyData address mask)) ⌝ }
 {
     image[SELECT] = MODIFY_DATA;
     image[ADDRESS] = address;
@@ -73,7 +92,7 @@ fn put_data(image: &mut [u8], address: u8, mask: u8) -> u8
 fn put_open(image: &mut [u8], instruction: Instruction) -> u8
     requires { ⌜ length (now image) ≡ imageSize ⌝ }
     ensures { λ r. ⌜ r ≡ 0 ⌝ }
-    ensures { λ _. ⌜ Turned (now (image .entry)) (now (image .exit)) (coreOf (now (image .entry))) (Select.Lowered instruction) ⌝ }
+    ensures { λ _. ⌜ Turned (now (image .entry)) (now (image .exit)) (coreOf (now (image .entry))) (Select.Lowered (speakerOf (now (image .entry))) instruction) ⌝ }
 {
     match instruction {
         Instruction::First => turn(image, FIRST),
@@ -91,6 +110,15 @@ fn put_open(image: &mut [u8], instruction: Instruction) -> u8
     }
 }
 
+fn speaker_number(speaker: Speaker) -> u8
+    ensures { λ r. ⌜ speakerBy r ≡ speaker ⌝ }
+{
+    match speaker {
+        Speaker::Controller => CONTROLLER,
+        Speaker::Panel => PANEL,
+    }
+}
+
 pub fn put_select(image: &mut [u8], select: Select)
     ensures { λ _. ⌜ Selected (now (image .entry)) (now (image .exit)) select ⌝ }
 {
@@ -101,7 +129,8 @@ pub fn put_select(image: &mut [u8], select: Select)
         Select::Raised => {
             image[SELECT] = RAISED;
         }
-        Select::Lowered(instruction) => {
+        Select::Lowered(speaker, instruction) => {
+            image[SPEAKER] = speaker_number(speaker);
             put_open(image, instruction);
         }
     }

@@ -24,7 +24,7 @@ Inv-loop image₀ log answers₀ count wanted size left₀ at₀ out₀ image an
     × (out + answerRoom wanted left ≤ length answers)
     × (length answers ≡ length answers₀)
     × (sets answers out (answersOf wanted (stepsOf left (chipOf image) (drop at log))) ≡ sets answers₀ 0 (answersOf wanted (stepsOf count (chipOf image₀) log)))
-    × (drop 149 image ≡ drop 149 image₀)
+    × (drop 150 image ≡ drop 150 image₀)
     × (lastChip (chipOf image) (stepsOf left (chipOf image) (drop at log)) ≡ lastChip (chipOf image₀) (stepsOf count (chipOf image₀) log))
     × (allRefused (stepsOf count (chipOf image₀) log) ≡ true → (image ≡ image₀) × (allRefused (stepsOf left (chipOf image) (drop at log)) ≡ true))
 

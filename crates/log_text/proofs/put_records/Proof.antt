@@ -33,7 +33,7 @@ Inv-loop image₀ number part count out₀ left₀ at₀ len₀ n₀ image out l
     → Stored out len (linesOf n (drop at part) (stepsOf left (chipOf image) (drop at part))) after end
     → Stored out₀ 0 (linesOf number part (stepsOf count (chipOf image₀) part)) after end)
     × (lastChip (chipOf image) (stepsOf left (chipOf image) (drop at part)) ≡ lastChip (chipOf image₀) (stepsOf count (chipOf image₀) part))
-    × (drop 149 image ≡ drop 149 image₀)
+    × (drop 150 image ≡ drop 150 image₀)
     × (allRefused (stepsOf count (chipOf image₀) part) ≡ true → (image ≡ image₀) × (allRefused (stepsOf left (chipOf image) (drop at part)) ≡ true))
 
 abbrev μ-loop : tie.MeasureT-loop

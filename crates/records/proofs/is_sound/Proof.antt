@@ -57,8 +57,8 @@ is-sound-plain-requires-7 c κs = search needs
 enum-told-9 : tie.Need-enum-told-9
 enum-told-9 c = search needs
 
-is-sound-pin-requires : tie.Need-is-sound-pin-requires
-is-sound-pin-requires c κs = search needs
+is-sound-plain-requires-8 : tie.Need-is-sound-plain-requires-8
+is-sound-plain-requires-8 c κs = search needs
 
 enum-told-10 : tie.Need-enum-told-10
 enum-told-10 c = search needs
@@ -97,7 +97,7 @@ returns-8 c = simp (c .is-sound-plain7 .ensures, ← c .before .before .before .
 
 returns-9 : tie.Need-returns-9
 unfolding soundOf kindOf recordOf
-returns-9 c = simp (c .is-sound-pin .ensures, ← c .before .before .before .kind-by .ensures, c .before .enum-told9 .given .1)
+returns-9 c = simp (c .is-sound-plain8 .ensures, ← c .before .before .before .kind-by .ensures, c .before .enum-told9 .given .1)
 
 returns-10 : tie.Need-returns-10
 unfolding soundOf kindOf recordOf
@@ -125,7 +125,7 @@ is-sound-spec =
     enum-told-8
     is-sound-plain-requires-7
     enum-told-9
-    is-sound-pin-requires
+    is-sound-plain-requires-8
     enum-told-10
     returns
     returns-2

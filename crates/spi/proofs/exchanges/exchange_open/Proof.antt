@@ -1,9 +1,9 @@
 use Rattle.image.specs.Image.{coreOf}
-use Rattle.spi.specs.Instructions.{commandOf}
+use Rattle.spi.specs.Instructions.{commandBy}
 use mathlib.Core.Path.{_≡_, refl, sym, _∙_}
 use borrow.Author.Tests.{ne-eqb}
 use Rattle.spi.specs.declared.Instruction.the-variants.{StatusReply, RxStatusReply, Done}
-use Rattle.spi.specs.Open.{instructionBy, openOf}
+use Rattle.spi.specs.Open.{instructionBy, speakerOf, openOf}
 use Rattle.spi.proofs.Turns.{first-reply, stayed}
 use borrow.Author.Needs.{needs}
 use Rattle.spi.proofs.exchanges.exchange_open.Statement.{statement}
@@ -12,11 +12,8 @@ use Rattle.spi.proofs.exchanges.exchange_open.Tie as tie
 slice-read-number : tie.Need-slice-read-number
 slice-read-number c = search needs
 
-command-of-requires : tie.Need-command-of-requires
-command-of-requires c κs = search needs
-
-begin-requires : tie.Need-begin-requires
-begin-requires c κs = search needs
+start-requires : tie.Need-start-requires
+start-requires c κs = search needs
 
 turn-to-requires : tie.Need-turn-to-requires
 turn-to-requires c κs = search needs
@@ -56,7 +53,10 @@ same-length c = search needs
 
 returns : tie.Need-returns
 unfolding instructionBy
-returns c = simp (c .before .before .before .before .before .match .keys1) (c .before .before .begin .ensures .0 ∙ sym (first-reply (commandOf (c .before .before .before .before .before .before .before .before .args .byte)) (coreOf (c .before .before .before .before .before .before .before .before .args .image .now))), rw (c .before .before .before .command-of .ensures) at (c .before .before .begin .ensures .1))
+returns c =
+    let m = c .before .before .before .before .before .before .before .args .image .now in
+    let x = commandBy (speakerOf m) (c .before .before .before .before .before .before .before .args .byte) in
+    simp (c .before .before .before .before .match .keys1) (c .before .before .start .ensures .0 ∙ sym (first-reply x (coreOf m)), c .before .before .start .ensures .1)
 
 same-length-2 : tie.Need-same-length-2
 same-length-2 c = search needs
@@ -144,8 +144,7 @@ exchange-open-spec =
     tie.close
     (tie.spec
     slice-read-number
-    command-of-requires
-    begin-requires
+    start-requires
     turn-to-requires
     fetch-requires
     turn-to-requires-2
