@@ -15,6 +15,7 @@ enum {
     ANSWER_SET = MCP2515_ANSWER_SET_SIZE,
     ENTRY = MCP2515_ENTRY_SIZE,
     LINE = MCP2515_LINE_SIZE,
+    TIMING = MCP2515_TIMING_SIZE,
     ALL_FILTERS = 0x3F
 };
 
@@ -45,6 +46,11 @@ static void check_sizes(void)
     expect("place of who selected", 149, MCP2515_PLACE_SPEAKER);
     expect("place of the version", 151, MCP2515_PLACE_VERSION);
     expect("refusal for who speaks", 18, MCP2515_REFUSED_SPEAKER);
+    expect("bytes of CNF1 to CNF3", 3, TIMING);
+    expect("refusal for an oscillator", 12, MCP2515_REFUSED_OSCILLATOR);
+    expect("refusal for a rate", 13, MCP2515_REFUSED_RATE);
+    expect("refusal for too little room", 19, MCP2515_REFUSED_SHORT);
+    expect("its name of before", MCP2515_REFUSED_SHORT, MCP2515_REFUSED_CHIP_ROOM);
 }
 
 /* Three numbers with a dot between, as pkg-config has to sort them. */
@@ -60,8 +66,7 @@ static void check_chip(void)
 {
     uint8_t chip[CHIP + 1];
     expect("power-on says the chip's size", CHIP, mcp2515_power_on(chip, CHIP));
-    expect("power-on with a byte less", -MCP2515_REFUSED_CHIP_ROOM,
-           mcp2515_power_on(chip, CHIP - 1));
+    expect("power-on with a byte less", -MCP2515_REFUSED_SHORT, mcp2515_power_on(chip, CHIP - 1));
     expect("the version at its place", MCP2515_CHIP_VERSION, chip[MCP2515_PLACE_VERSION]);
     expect("a chip of that size", 0x87, mcp2515_hold(chip, CHIP, 0x0F));
     expect("a byte more", -MCP2515_REFUSED_NO_CHIP, mcp2515_hold(chip, CHIP + 1, 0x0F));
@@ -342,6 +347,53 @@ static void check_line(void)
            snprintf(NULL, 0, "%lu 255 255 255\n", (unsigned long)UINT32_MAX));
 }
 
+/* Each rule of bit timing broken alone; phase 2 of 1 is not longer than the jump width either. */
+static void check_faults(void)
+{
+    static const struct {
+        const char *name;
+        unsigned bits, named;
+        uint8_t cnf[TIMING];
+    } rules[] = {
+        {"no rule broken", 0, 0, {0x04, 0xB1, 0x05}},
+        {"BTLMODE clear", 0x01, MCP2515_FAULT_BTLMODE, {0x04, 0x31, 0x05}},
+        {"spare bits of CNF3", 0x02, MCP2515_FAULT_SPARE, {0x04, 0xB1, 0x0D}},
+        {"phase 2 of 1", 0x14, MCP2515_FAULT_PHASE_2 | MCP2515_FAULT_JUMP, {0x04, 0xB1, 0x00}},
+        {"propagation and phase 1 too short", 0x08, MCP2515_FAULT_SAMPLE, {0x04, 0x91, 0x05}},
+        {"jump width of phase 2", 0x10, MCP2515_FAULT_JUMP, {0xC4, 0xB1, 0x03}},
+        {"a bit of 7 quanta", 0x20, MCP2515_FAULT_QUANTA, {0x04, 0x82, 0x01}},
+    };
+    expect("the bit of phase 2", 0x04, MCP2515_FAULT_PHASE_2);
+    for (unsigned i = 0; i < sizeof rules / sizeof *rules; i++) {
+        const uint8_t *cnf = rules[i].cnf;
+        expect(rules[i].name, rules[i].bits, rules[i].named);
+        expect(rules[i].name, rules[i].bits, mcp2515_timing_faults(cnf[0], cnf[1], cnf[2]));
+        expect(rules[i].name, rules[i].bits == 0, mcp2515_check_timing(cnf[0], cnf[1], cnf[2]));
+    }
+}
+
+static void check_plan(void)
+{
+    static const uint8_t want[TIMING] = {0x00, 0x86, 0x06};
+    uint8_t cnf[TIMING];
+    expect("a plan", TIMING, mcp2515_plan_timing(16000000, 500000, cnf, TIMING));
+    expect("its bytes", 0, memcmp(cnf, want, TIMING));
+    expect("its difference", 0,
+           mcp2515_timing_difference(16000000, 500000, cnf[0], cnf[1], cnf[2]));
+    expect("a difference above zero", 32,
+           mcp2515_timing_difference(16000000, 499999, cnf[0], cnf[1], cnf[2]));
+    expect("a difference below zero", -32,
+           mcp2515_timing_difference(16000000, 500001, cnf[0], cnf[1], cnf[2]));
+    expect("a plan with a byte less", -MCP2515_REFUSED_SHORT,
+           mcp2515_plan_timing(16000000, 500000, cnf, TIMING - 1));
+    expect("an oscillator too slow", -MCP2515_REFUSED_OSCILLATOR,
+           mcp2515_plan_timing(999999, 500000, cnf, TIMING));
+    expect("a rate too fast", -MCP2515_REFUSED_RATE,
+           mcp2515_plan_timing(16000000, 1000001, cnf, TIMING));
+    expect("no plan", 0, mcp2515_plan_timing(40000000, 5000, cnf, TIMING));
+    expect("the bytes of before", 0, memcmp(cnf, want, TIMING));
+}
+
 int main(void)
 {
     check_sizes();
@@ -358,6 +410,8 @@ int main(void)
     check_entry_sets();
     check_entry_limits();
     check_line();
+    check_faults();
+    check_plan();
     printf("header: %u checks of sizes, places and limits agree\n", checked);
     return 0;
 }

@@ -70,7 +70,7 @@ static void edge_power_on(void)
         uint8_t *chip = fence_lend(&chip_fence, lengths[i]);
         bool room = lengths[i] >= MCP2515_CHIP_SIZE;
         size_t written = room ? MCP2515_CHIP_SIZE : 0;
-        live_result(CALL_POWER_ON, room ? MCP2515_CHIP_SIZE : -MCP2515_REFUSED_CHIP_ROOM,
+        live_result(CALL_POWER_ON, room ? MCP2515_CHIP_SIZE : -MCP2515_REFUSED_SHORT,
                     mcp2515_power_on(chip, lengths[i]));
         if (!fence_filled(chip + written, lengths[i] - written) ||
             !fence_intact(&chip_fence, lengths[i]))
@@ -78,7 +78,7 @@ static void edge_power_on(void)
         if (room && chip[MCP2515_PLACE_VERSION] != MCP2515_CHIP_VERSION)
             live_stop("power-on wrote no version");
     }
-    live_result(CALL_POWER_ON, -MCP2515_REFUSED_CHIP_ROOM, mcp2515_power_on(NULL, 0));
+    live_result(CALL_POWER_ON, -MCP2515_REFUSED_SHORT, mcp2515_power_on(NULL, 0));
 }
 
 static void step_at(const struct step_call *step, size_t chip_len, uint8_t version,

@@ -1,4 +1,4 @@
-/* Shared by the two halves of the speed test. */
+/* Shared by the parts of the speed test. */
 #ifndef BENCH_SPEED_H
 #define BENCH_SPEED_H
 
@@ -25,5 +25,9 @@ bool time_pairs(const char *name, make_log *make);
 void time_noise_pairs(void);
 
 void print_pairs_head(void);
+
+/* speed_timing.c: times mcp2515_plan_timing beside the model. False if a plan is over its
+ * limit. */
+bool time_plans(void);
 
 #endif

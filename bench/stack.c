@@ -105,6 +105,33 @@ static void do_part_refusal(void)
     out[0] = (uint8_t)mcp2515_part_refusal(0, sizeof records);
 }
 
+/* Plans of a zero difference, of another one, of a tie, and none for either reason. */
+static void do_plan_timing(void)
+{
+    static const uint32_t targets[][2] = {{16000000, 500000},
+                                         {14745600, 10000},
+                                         {5125000, 5000},
+                                         {40000000, 5000},
+                                         {1000000, 1000000}};
+    for (unsigned i = 0; i < sizeof targets / sizeof *targets; i++)
+        mcp2515_plan_timing(targets[i][0], targets[i][1], out, MCP2515_TIMING_SIZE);
+}
+
+static void do_check_timing(void)
+{
+    out[0] = (uint8_t)mcp2515_check_timing(0x04, 0xB1, 0x05);
+}
+
+static void do_timing_faults(void)
+{
+    out[0] = (uint8_t)mcp2515_timing_faults(0xC0, 0x00, 0x3A);
+}
+
+static void do_timing_difference(void)
+{
+    out[0] = (uint8_t)mcp2515_timing_difference(20000000, 125000, 0x04, 0xB1, 0x05);
+}
+
 static const struct call {
     const char *name;
     void (*run)(void);
@@ -122,6 +149,10 @@ static const struct call {
     {"mcp2515_render", do_render, CALL_LIMIT},
     {"mcp2515_part_refusal", do_part_refusal, CALL_LIMIT},
     {"mcp2515_compare_logs", do_compare_logs, COMPARE_LIMIT},
+    {"mcp2515_plan_timing", do_plan_timing, CALL_LIMIT},
+    {"mcp2515_check_timing", do_check_timing, CALL_LIMIT},
+    {"mcp2515_timing_faults", do_timing_faults, CALL_LIMIT},
+    {"mcp2515_timing_difference", do_timing_difference, CALL_LIMIT},
 };
 
 struct painted {
@@ -194,7 +225,7 @@ static bool measure_calls(void)
     mcp2515_power_on(chip, sizeof chip);
     for (size_t i = 0; i < sizeof calls / sizeof *calls; i++) {
         size_t used = stack_used(&calls[i]);
-        printf("%-22s %6zu bytes of stack\n", calls[i].name, used);
+        printf("%-25s %6zu bytes of stack\n", calls[i].name, used);
         good &= within(calls[i].name, used, calls[i].limit, "bytes");
     }
     return good;

@@ -61,14 +61,15 @@
 extern "C" {
 #endif
 
-#define MCP2515_VERSION "0.4.0" /* of header, archive and tool */
+#define MCP2515_VERSION "0.5.0" /* of header, archive and tool */
 
 #define MCP2515_RECORD_SIZE 16
 #define MCP2515_ANSWER_SIZE 2     /* refusal and answer of one record */
 #define MCP2515_ANSWER_SET_SIZE 3 /* refusal, answer and set */
 #define MCP2515_ENTRY_SIZE 10     /* a record in which two logs differ */
 #define MCP2515_MOST_RECORDS 65535
-#define MCP2515_LINE_SIZE 23 /* room for a line of the replay's text */
+#define MCP2515_LINE_SIZE 23   /* room for a line of the replay's text */
+#define MCP2515_TIMING_SIZE 3  /* CNF1, CNF2, CNF3 */
 
 /*
  * A chip is 152 bytes that the program holds, copies, saves and loads as it
@@ -124,11 +125,15 @@ extern "C" {
 #define MCP2515_REFUSED_SPEAKER 18  /* exchange or select high by the one who did not select */
 
 /* Refusals of a call, returned as negative numbers. */
-#define MCP2515_REFUSED_LENGTH 6     /* no whole number of records */
-#define MCP2515_REFUSED_ROOM 7       /* too little room for answers, text or entries */
-#define MCP2515_REFUSED_COUNT 8      /* more than 65,535 records */
-#define MCP2515_REFUSED_CHIP_ROOM 19 /* too little room for a chip */
-#define MCP2515_REFUSED_NO_CHIP 21   /* the bytes are no chip: length or version */
+#define MCP2515_REFUSED_LENGTH 6      /* no whole number of records */
+#define MCP2515_REFUSED_ROOM 7        /* too little room for answers, text or entries */
+#define MCP2515_REFUSED_COUNT 8       /* more than 65,535 records */
+#define MCP2515_REFUSED_OSCILLATOR 12 /* an oscillator outside 1,000,000 to 40,000,000 Hz */
+#define MCP2515_REFUSED_RATE 13       /* a bit rate outside 5,000 to 1,000,000 bit/s */
+#define MCP2515_REFUSED_SHORT 19      /* too little room for a chip, or for CNF1 to CNF3 */
+#define MCP2515_REFUSED_NO_CHIP 21    /* the bytes are no chip: length or version */
+
+#define MCP2515_REFUSED_CHIP_ROOM MCP2515_REFUSED_SHORT /* its name up to 0.4.0 */
 
 /*
  * Runs a log from power-on. The first that applies decides:
@@ -252,6 +257,57 @@ int64_t mcp2515_render(uint8_t *chip, size_t chip_len, uint32_t number, const ui
  * where the replay goes on.
  */
 int64_t mcp2515_part_refusal(uint32_t number, size_t part_len);
+
+/*
+ * Bit timing: bytes for CNF1, CNF2 and CNF3, apart from any chip.
+ *
+ *   CNF1  bits 7-6: jump width - 1; bits 5-0: BRP
+ *   CNF2  bit 7: BTLMODE; bit 6: SAM; bits 5-3: phase 1 - 1; bits 2-0: propagation - 1
+ *   CNF3  bit 7: SOF; bit 6: WAKFIL; bits 5-3: spare; bits 2-0: phase 2 - 1
+ *
+ * Lengths are in quanta, of 2 * (BRP + 1) clocks of the oscillator each. A bit is
+ * the sync quantum, propagation, phase 1 and phase 2.
+ *
+ * Returns the rules that the three bytes break, a bit for each. SAM, SOF and
+ * WAKFIL may be anything. Each rule goes by the fields, phase 2 by CNF3 also where
+ * BTLMODE is clear.
+ */
+#define MCP2515_FAULT_BTLMODE 0x01 /* BTLMODE is clear */
+#define MCP2515_FAULT_SPARE 0x02   /* bits 5-3 of CNF3 are not clear */
+#define MCP2515_FAULT_PHASE_2 0x04 /* phase 2 is below 2 quanta */
+#define MCP2515_FAULT_SAMPLE 0x08  /* propagation and phase 1 are shorter than phase 2 */
+#define MCP2515_FAULT_JUMP 0x10    /* phase 2 is not longer than the jump width */
+#define MCP2515_FAULT_QUANTA 0x20  /* a bit is not 8 to 25 quanta */
+int64_t mcp2515_timing_faults(uint8_t cnf1, uint8_t cnf2, uint8_t cnf3);
+
+/*
+ * Whether the three bytes are sound: 1 where they break no rule, else 0.
+ */
+int64_t mcp2515_check_timing(uint8_t cnf1, uint8_t cnf2, uint8_t cnf3);
+
+/*
+ * The oscillator less the one with which the bit rate would be exact:
+ * oscillator - rate * 2 * (BRP + 1) * quanta, exact and with its sign. Above 0
+ * bits go faster than the rate, below 0 slower. Of any three bytes, sound or not,
+ * and any oscillator and rate.
+ */
+int64_t mcp2515_timing_difference(uint32_t oscillator, uint32_t rate, uint8_t cnf1, uint8_t cnf2,
+                                  uint8_t cnf3);
+
+/*
+ * Plans the three bytes for an oscillator in Hz and a rate in bit/s: of the sound
+ * ones with SAM, SOF and WAKFIL 0 those with the smallest size of the difference,
+ * then with the lowest BRP, then with the lowest CNF1, CNF2, CNF3. There are none
+ * where that size times 1,000 is more than the oscillator. The first that applies
+ * decides:
+ *
+ *   -12  oscillator outside 1,000,000 to 40,000,000
+ *   -13  rate outside 5,000 to 1,000,000
+ *   -19  cnf_len is below 3, also where there are none
+ *   0    there are none, and cnf stays
+ *   otherwise 3, with CNF1, CNF2, CNF3 in cnf[0] to cnf[2]; bytes past them stay
+ */
+int64_t mcp2515_plan_timing(uint32_t oscillator, uint32_t rate, uint8_t *cnf, size_t cnf_len);
 
 #ifdef __cplusplus
 }

@@ -65,13 +65,17 @@ pub held-value : (m : List ℕ) {x v o : ℕ} → isChip m ≡ true → x < 2 ^ 
 unfolding heldAnswer heldRefusal
 held-value m is small a = toZ-pos w64 small ∙ rw is (ap pos (a .image (chip-size m is)))
 
-pub held-test : (m : List ℕ) {b t : Bool} → isChip m ≡ true → b ≡ t → toZ w64 (boolByte b) ≡ heldAnswer m (zeroOrOne t)
-unfolding heldAnswer heldRefusal
-held-test m {b} {t} is e = rw (is, e) (go t)
+-- a test as a number
+pub test-number : {b t : Bool} → b ≡ t → toZ w64 (boolByte b) ≡ pos (zeroOrOne t)
+test-number {b} {t} e = rw e (go t)
   where
     go : (x : Bool) → toZ w64 (boolByte x) ≡ pos (zeroOrOne x)
     go true = refl
     go false = refl
+
+pub held-test : (m : List ℕ) {b t : Bool} → isChip m ≡ true → b ≡ t → toZ w64 (boolByte b) ≡ heldAnswer m (zeroOrOne t)
+unfolding heldAnswer heldRefusal
+held-test m is e = rw is (test-number e)
 
 pub no-value : (m : List ℕ) (v : ℕ) → isChip m ≡ false → negℤ (pos chipRefusal) ≡ heldAnswer m v
 unfolding heldAnswer heldRefusal

@@ -1,1 +1,2 @@
 pub mod StandIn
+pub mod TimingCalls

@@ -1,5 +1,6 @@
 // The calls of a C program that holds a chip as bytes of its own. The archive of this crate has the calls
-// marked here and no others, so those of bus_log, compare and log_text stand here once more.
+// marked here and no others, so those of bus_log, compare and log_text stand here once more. The calls on bit
+// timing need no chip.
 ghost use mathlib.Core.Path.{_≡_};
 ghost use mathlib.Core.Bool.{true, false};
 ghost use Prim.Native.Nat.{_≤_};
@@ -8,9 +9,10 @@ ghost use lib.Seq.{sets};
 ghost use lib.IntN.{pos};
 ghost use Rattle.registers.specs.Registers.{holds, reads, intIsLow};
 ghost use Rattle.mcp2515.specs.ChipImage.{chipOf};
-ghost use Rattle.bus_log.specs.Run.{runResult, runAnswers};
+ghost use Rattle.bus_log.specs.Run.{callResult, runResult, runAnswers};
 ghost use Rattle.bus_log.specs.From.{RunningFrom};
 ghost use Rattle.compare.specs.Compare.{compareResult, compareEntries};
+ghost use Rattle.bit_timing.specs.Timing.{isSound, faultsOf, differenceOf};
 ghost use Rattle.log_text.specs.Stretch.{stretchRefusal};
 ghost use Rattle.log_text.specs.Text.{TextHeld};
 ghost use Rattle.stand_in.specs.StandIn.{
@@ -22,14 +24,26 @@ ghost use Rattle.stand_in.specs.StandIn.{
   heldAnswer,
   zeroOrOne,
 };
+ghost use Rattle.stand_in.specs.TimingCalls.{
+  settingBy,
+  settingSize,
+  settingRefusal,
+  settingAfter,
+  PlanCall,
+};
+use bit_timing::Planned;
+use bit_timing::Setting;
 use bus_log::CHIP_REFUSAL;
 use bus_log::LENGTH_REFUSAL;
 use bus_log::RECORD_SIZE;
 use bus_log::ROOM_REFUSAL;
 use image::SIZE;
 
-// Too little room for a chip.
+// Too little room for a chip, or for CNF1 to CNF3.
 const SHORT_REFUSAL: u8 = 19;
+
+// CNF1, CNF2, CNF3.
+const SETTING_SIZE: usize = 3;
 
 fn put_first<'a>(room: &'a mut [u8], bytes: &'a [u8])
     requires { ⌜ length (now bytes) ≤ length (now room) ⌝ }
@@ -196,4 +210,65 @@ pub extern "C" fn mcp2515_int_is_low(chip: &[u8]) -> i64
         return registers::int_is_low(control) as i64;
     }
     bus_log::minus(CHIP_REFUSAL)
+}
+
+// The rules of bit timing that three bytes break, a bit for each.
+#[no_mangle]
+pub extern "C" fn mcp2515_timing_faults(cnf1: u8, cnf2: u8, cnf3: u8) -> i64
+    ensures { λ r. ⌜ r ≡ pos (faultsOf (settingBy cnf1 cnf2 cnf3)) ⌝ }
+{
+    bit_timing::faults(Setting { cnf1, cnf2, cnf3 }) as i64
+}
+
+// Whether three bytes keep all of them: 1 or 0.
+#[no_mangle]
+pub extern "C" fn mcp2515_check_timing(cnf1: u8, cnf2: u8, cnf3: u8) -> i64
+    ensures { λ r. ⌜ r ≡ pos (zeroOrOne (isSound (settingBy cnf1 cnf2 cnf3))) ⌝ }
+{
+    bit_timing::check(Setting { cnf1, cnf2, cnf3 }) as i64
+}
+
+// Oscillator less what the bit rate would need, with its sign.
+#[no_mangle]
+pub extern "C" fn mcp2515_timing_difference(
+    oscillator: u32,
+    rate: u32,
+    cnf1: u8,
+    cnf2: u8,
+    cnf3: u8,
+) -> i64
+    ensures { λ r. ⌜ r ≡ differenceOf oscillator rate (settingBy cnf1 cnf2 cnf3) ⌝ }
+{
+    bit_timing::difference(oscillator, rate, Setting { cnf1, cnf2, cnf3 })
+}
+
+// Stores the three bytes of a setting and returns 3, or changes nothing and returns minus 19.
+fn put_setting(room: &mut [u8], setting: Setting) -> i64
+    ensures result { λ x. ⌜ x ≡ callResult (settingRefusal (length (now (room .entry)))) settingSize ⌝ }
+    ensures bytes { λ _. ⌜ now (room .exit) ≡ settingAfter setting (now (room .entry)) ⌝ }
+{
+    if room.len() < SETTING_SIZE {
+        return bus_log::minus(SHORT_REFUSAL);
+    }
+    put_first(room, &[setting.cnf1, setting.cnf2, setting.cnf3]);
+    SETTING_SIZE as i64
+}
+
+// The best setting for an oscillator and a bit rate: stores its three bytes and returns 3, or changes nothing
+// and returns 0 where there is none, or minus the refusal.
+#[no_mangle]
+pub extern "C" fn mcp2515_plan_timing(oscillator: u32, rate: u32, cnf: &mut [u8]) -> i64
+    ensures { λ x. ⌜ PlanCall oscillator rate (now (cnf .entry)) (now (cnf .exit)) x ⌝ }
+{
+    let plan = bit_timing::plan(oscillator, rate);
+    match plan {
+        Planned::Refused(refusal) => bus_log::minus(refusal),
+        Planned::None => {
+            if cnf.len() < SETTING_SIZE {
+                return bus_log::minus(SHORT_REFUSAL);
+            }
+            0
+        }
+        Planned::Found(setting, _) => put_setting(cnf, setting),
+    }
 }
