@@ -332,5 +332,7 @@ say "--help, --version, bad arguments, --"
 . "$root/tools/check_pins.sh"
 # shellcheck source=tools/check_panel.sh
 . "$root/tools/check_panel.sh"
+# shellcheck source=tools/check_timing.sh
+. "$root/tools/check_timing.sh"
 
 echo "tool check: $tried groups passed"

@@ -35,6 +35,13 @@ int wrong_usage(const struct subcommand *c, const char *reason)
     return point_to_help(c);
 }
 
+int wrong_argument(const struct subcommand *c, const char *name, const char *value,
+                   const char *reason)
+{
+    fprintf(stderr, "mcp2515: %s: %s '%s' %s\n", c->name, name, value, reason);
+    return point_to_help(c);
+}
+
 const char *refusal_text(int64_t refusal)
 {
     switch (refusal) {
@@ -42,6 +49,10 @@ const char *refusal_text(int64_t refusal)
         return "refusal 6: the log ends inside a record";
     case MCP2515_REFUSED_COUNT:
         return "refusal 8: the log has more than 65,535 records";
+    case MCP2515_REFUSED_OSCILLATOR:
+        return "refusal 12: the oscillator is outside 1,000,000 to 40,000,000 Hz";
+    case MCP2515_REFUSED_RATE:
+        return "refusal 13: the bit rate is outside 5,000 to 1,000,000 bit/s";
     }
     return "refused";
 }

@@ -13,7 +13,13 @@
 #include "mcp2515.h"
 
 /* Exit statuses, as cmp and diff have them. */
-enum { STATUS_GOOD = 0, STATUS_REFUSED = 1, STATUS_DIFFERENT = 1, STATUS_TROUBLE = 2 };
+enum {
+    STATUS_GOOD = 0,
+    STATUS_REFUSED = 1,
+    STATUS_DIFFERENT = 1,
+    STATUS_UNSOUND = 1,
+    STATUS_TROUBLE = 2
+};
 
 struct subcommand {
     const char *name;
@@ -22,7 +28,7 @@ struct subcommand {
     int (*run)(int argc, char **argv); /* argv[0] is its name; returns the status */
 };
 
-extern const struct subcommand replay_command, chip_command, compare_command;
+extern const struct subcommand replay_command, chip_command, compare_command, timing_command;
 
 /* ---- arguments ---- */
 
@@ -37,7 +43,7 @@ struct number_option {
     size_t *number;   /* stays as it was where the option is not given */
 };
 
-enum { MOST_OPERANDS = 2, GO_ON = -1 };
+enum { MOST_OPERANDS = 5, GO_ON = -1 };
 
 struct arguments {
     const struct flag *flags;
@@ -63,7 +69,11 @@ int trouble_errno(const char *what);
 /* `mcp2515: SUBCOMMAND: REASON`, and where to read on; gives STATUS_TROUBLE. */
 int wrong_usage(const struct subcommand *c, const char *reason);
 
-/* What a refusal of a log means, in words. */
+/* `mcp2515: SUBCOMMAND: NAME 'VALUE' REASON`, and where to read on; gives STATUS_TROUBLE. */
+int wrong_argument(const struct subcommand *c, const char *name, const char *value,
+                   const char *reason);
+
+/* What a refusal of a log or of a plan means, in words. */
 const char *refusal_text(int64_t refusal);
 
 /* Writes all of the bytes at once; gives STATUS_GOOD or STATUS_TROUBLE. */
