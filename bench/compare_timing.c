@@ -35,9 +35,9 @@ enum {
 _Static_assert((int)TIMING_BYTES == MCP2515_TIMING_SIZE, "bytes of a plan");
 _Static_assert((int)FAULT_BTLMODE == MCP2515_FAULT_BTLMODE, "BTLMODE");
 _Static_assert((int)FAULT_SPARE == MCP2515_FAULT_SPARE, "spare bits");
-_Static_assert((int)FAULT_PHASE_2 == MCP2515_FAULT_PHASE_2, "phase 2");
-_Static_assert((int)FAULT_SAMPLE == MCP2515_FAULT_SAMPLE, "before the sample point");
-_Static_assert((int)FAULT_JUMP == MCP2515_FAULT_JUMP, "jump width");
+_Static_assert((int)FAULT_PS2 == MCP2515_FAULT_PS2, "phase 2");
+_Static_assert((int)FAULT_PROPSEG_PS1 == MCP2515_FAULT_PROPSEG_PS1, "before the sample point");
+_Static_assert((int)FAULT_SJW == MCP2515_FAULT_SJW, "jump width");
 _Static_assert((int)FAULT_QUANTA == MCP2515_FAULT_QUANTA, "quanta of a bit");
 _Static_assert((int)REFUSED_OSCILLATOR == MCP2515_REFUSED_OSCILLATOR, "refusal 12");
 _Static_assert((int)REFUSED_RATE == MCP2515_REFUSED_RATE, "refusal 13");
@@ -135,11 +135,11 @@ static void demand_faults(void)
     demand("BTLMODE clear, nothing else", fault_sets[FAULT_BTLMODE]);
     demand("spare bits, nothing else", fault_sets[FAULT_SPARE]);
     demand("phase 2 below 2, with it the jump width, nothing else",
-           fault_sets[FAULT_PHASE_2 | FAULT_JUMP]);
-    demand("propagation and phase 1 too short, nothing else", fault_sets[FAULT_SAMPLE]);
-    demand("jump width too long, nothing else", fault_sets[FAULT_JUMP]);
+           fault_sets[FAULT_PS2 | FAULT_SJW]);
+    demand("propagation and phase 1 too short, nothing else", fault_sets[FAULT_PROPSEG_PS1]);
+    demand("jump width too long, nothing else", fault_sets[FAULT_SJW]);
     demand("quanta of a bit, nothing else", fault_sets[FAULT_QUANTA]);
-    if (fault_sets[FAULT_PHASE_2] > 0)
+    if (fault_sets[FAULT_PS2] > 0)
         stop("phase 2 below 2 and longer than the jump width");
 }
 

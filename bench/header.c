@@ -358,12 +358,12 @@ static void check_faults(void)
         {"no rule broken", 0, 0, {0x04, 0xB1, 0x05}},
         {"BTLMODE clear", 0x01, MCP2515_FAULT_BTLMODE, {0x04, 0x31, 0x05}},
         {"spare bits of CNF3", 0x02, MCP2515_FAULT_SPARE, {0x04, 0xB1, 0x0D}},
-        {"phase 2 of 1", 0x14, MCP2515_FAULT_PHASE_2 | MCP2515_FAULT_JUMP, {0x04, 0xB1, 0x00}},
-        {"propagation and phase 1 too short", 0x08, MCP2515_FAULT_SAMPLE, {0x04, 0x91, 0x05}},
-        {"jump width of phase 2", 0x10, MCP2515_FAULT_JUMP, {0xC4, 0xB1, 0x03}},
+        {"phase 2 of 1", 0x14, MCP2515_FAULT_PS2 | MCP2515_FAULT_SJW, {0x04, 0xB1, 0x00}},
+        {"propagation and phase 1 too short", 0x08, MCP2515_FAULT_PROPSEG_PS1, {0x04, 0x91, 0x05}},
+        {"jump width of phase 2", 0x10, MCP2515_FAULT_SJW, {0xC4, 0xB1, 0x03}},
         {"a bit of 7 quanta", 0x20, MCP2515_FAULT_QUANTA, {0x04, 0x82, 0x01}},
     };
-    expect("the bit of phase 2", 0x04, MCP2515_FAULT_PHASE_2);
+    expect("the bit of phase 2", 0x04, MCP2515_FAULT_PS2);
     for (unsigned i = 0; i < sizeof rules / sizeof *rules; i++) {
         const uint8_t *cnf = rules[i].cnf;
         expect(rules[i].name, rules[i].bits, rules[i].named);

@@ -1,6 +1,6 @@
 /*
- * Time of a plan by mcp2515_plan_timing, over fixed targets of a sort and of the
- * one that takes longest, beside the second model's search. A plan may take 20
+ * Mean time of a plan by mcp2515_plan_timing over the targets of a sort, and time
+ * of the slowest of them, beside the second model's search. A plan may take 20
  * microseconds, the slowest one too.
  */
 #include <stdio.h>

@@ -1,7 +1,7 @@
 /*
  * Tests of the second model of bit timing by itself: the fixed cases, all
  * bytes that there are by their fields, and plans for boards and random targets
- * against the choice in another form. With a third argument, all, also each
+ * against the choice in another form. With a second argument, all, also each
  * fixed plan and those for boards by a search through all bytes, which takes a
  * while.
  *
@@ -253,6 +253,10 @@ static void search_all(void)
 {
     static const struct timing_checks checks = {ignore_faults, ignore_difference, search_plan};
     sound_triples = malloc(TRIPLES * sizeof *sound_triples);
+    if (sound_triples == NULL) {
+        fprintf(stderr, "no memory for all bytes\n");
+        exit(1);
+    }
     for (unsigned t = 0; t < TRIPLES; t++)
         sound_triples[t] = timing_sound(cnf_of(t, 0), cnf_of(t, 1), cnf_of(t, 2));
     timing_cases(&checks);

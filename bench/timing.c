@@ -50,11 +50,11 @@ unsigned timing_faults(uint8_t cnf1, uint8_t cnf2, uint8_t cnf3)
     if (cnf3 & SPARE_OF_CNF3)
         faults |= FAULT_SPARE;
     if (phase_2(cnf3) < PHASE_2_LEAST)
-        faults |= FAULT_PHASE_2;
+        faults |= FAULT_PS2;
     if (propagation(cnf2) + phase_1(cnf2) < phase_2(cnf3))
-        faults |= FAULT_SAMPLE;
+        faults |= FAULT_PROPSEG_PS1;
     if (phase_2(cnf3) <= jump_width(cnf1))
-        faults |= FAULT_JUMP;
+        faults |= FAULT_SJW;
     if (quanta < QUANTA_LEAST || quanta > QUANTA_MOST)
         faults |= FAULT_QUANTA;
     return faults;

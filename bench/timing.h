@@ -15,13 +15,13 @@ enum { TIMING_BYTES = 3 }; /* CNF1, CNF2, CNF3 */
 
 /* The rules that three bytes can break, a bit each. */
 enum {
-    FAULT_BTLMODE = 0x01, /* BTLMODE is clear */
-    FAULT_SPARE = 0x02,   /* bits 5-3 of CNF3 are not clear */
-    FAULT_PHASE_2 = 0x04, /* phase 2 below 2 quanta */
-    FAULT_SAMPLE = 0x08,  /* propagation and phase 1 shorter than phase 2 */
-    FAULT_JUMP = 0x10,    /* phase 2 not longer than the jump width */
-    FAULT_QUANTA = 0x20,  /* not 8 to 25 quanta a bit */
-    FAULT_SETS = 0x40
+    FAULT_BTLMODE = 0x01,     /* BTLMODE is clear */
+    FAULT_SPARE = 0x02,       /* bits 5-3 of CNF3 are not clear */
+    FAULT_PS2 = 0x04,         /* phase 2 below 2 quanta */
+    FAULT_PROPSEG_PS1 = 0x08, /* propagation and phase 1 shorter than phase 2 */
+    FAULT_SJW = 0x10,         /* phase 2 not longer than the jump width */
+    FAULT_QUANTA = 0x20,      /* not 8 to 25 quanta a bit */
+    FAULT_SETS = 0x40         /* how many sets of them there are */
 };
 
 /* Refusals of a plan, and what it can be asked. */

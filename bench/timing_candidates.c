@@ -1,7 +1,8 @@
 #include "timing_candidates.h"
 
 /* One more with the size that is the smallest so far. */
-static void add_candidate(struct candidates *r, unsigned brp, int64_t difference, unsigned *brp_of_last)
+static void add_candidate(struct candidates *r, unsigned brp, int64_t difference,
+                          unsigned *brp_of_last)
 {
     if (*brp_of_last == brp)
         r->of_one_brp = true;

@@ -80,7 +80,8 @@ static struct target target_two_quanta(uint64_t *dice)
 {
     for (;;) {
         uint32_t brp = between(dice, 0, 3) ? 0 : between(dice, 1, CANDIDATE_BRPS - 1);
-        uint32_t halves = (brp + 1) * (2 * between(dice, 8, 24) + 1);
+        uint32_t fewer = between(dice, CANDIDATE_QUANTA_LEAST, CANDIDATE_QUANTA_MOST - 1);
+        uint32_t halves = (brp + 1) * (2 * fewer + 1);
         uint32_t rate = some_rate(dice);
         if (is_asked_for((int64_t)rate * halves, rate))
             return (struct target){rate * halves, rate};

@@ -4,7 +4,6 @@
  * that somebody else proposed are checked.
  */
 #include <stdio.h>
-#include <string.h>
 
 #include "mcp2515.h"
 
@@ -56,7 +55,7 @@ int main(void)
     printf("the chip holds it\n");
 
     /* A bit of 1 + 2 + 2 + 2 quanta, and a jump width of 2. */
-    if (mcp2515_timing_faults(0x40, 0x89, 0x01) != (MCP2515_FAULT_JUMP | MCP2515_FAULT_QUANTA))
+    if (mcp2515_timing_faults(0x40, 0x89, 0x01) != (MCP2515_FAULT_SJW | MCP2515_FAULT_QUANTA))
         return fail("the faults are not as expected");
     printf("40h, 89h, 01h: PS2 is not longer than the jump width, and a bit has too few quanta\n");
     return 0;

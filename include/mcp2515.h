@@ -68,8 +68,8 @@ extern "C" {
 #define MCP2515_ANSWER_SET_SIZE 3 /* refusal, answer and set */
 #define MCP2515_ENTRY_SIZE 10     /* a record in which two logs differ */
 #define MCP2515_MOST_RECORDS 65535
-#define MCP2515_LINE_SIZE 23   /* room for a line of the replay's text */
-#define MCP2515_TIMING_SIZE 3  /* CNF1, CNF2, CNF3 */
+#define MCP2515_LINE_SIZE 23  /* room for a line of the replay's text */
+#define MCP2515_TIMING_SIZE 3 /* CNF1, CNF2, CNF3 */
 
 /*
  * A chip is 152 bytes that the program holds, copies, saves and loads as it
@@ -261,23 +261,25 @@ int64_t mcp2515_part_refusal(uint32_t number, size_t part_len);
 /*
  * Bit timing: bytes for CNF1, CNF2 and CNF3, apart from any chip.
  *
- *   CNF1  bits 7-6: jump width - 1; bits 5-0: BRP
- *   CNF2  bit 7: BTLMODE; bit 6: SAM; bits 5-3: phase 1 - 1; bits 2-0: propagation - 1
- *   CNF3  bit 7: SOF; bit 6: WAKFIL; bits 5-3: spare; bits 2-0: phase 2 - 1
+ *   CNF1  bits 7-6: SJW - 1; bits 5-0: BRP
+ *   CNF2  bit 7: BTLMODE; bit 6: SAM; bits 5-3: PS1 - 1; bits 2-0: PropSeg - 1
+ *   CNF3  bit 7: SOF; bit 6: WAKFIL; bits 5-3: spare; bits 2-0: PS2 - 1
  *
- * Lengths are in quanta, of 2 * (BRP + 1) clocks of the oscillator each. A bit is
- * the sync quantum, propagation, phase 1 and phase 2.
- *
- * Returns the rules that the three bytes break, a bit for each. SAM, SOF and
- * WAKFIL may be anything. Each rule goes by the fields, phase 2 by CNF3 also where
- * BTLMODE is clear.
+ * SJW is the jump width, PropSeg the propagation segment, PS1 and PS2 are the
+ * phase segments, all in quanta. A quantum is 2 * (BRP + 1) clocks of the
+ * oscillator. A bit is the sync quantum, PropSeg, PS1 and PS2.
  */
-#define MCP2515_FAULT_BTLMODE 0x01 /* BTLMODE is clear */
-#define MCP2515_FAULT_SPARE 0x02   /* bits 5-3 of CNF3 are not clear */
-#define MCP2515_FAULT_PHASE_2 0x04 /* phase 2 is below 2 quanta */
-#define MCP2515_FAULT_SAMPLE 0x08  /* propagation and phase 1 are shorter than phase 2 */
-#define MCP2515_FAULT_JUMP 0x10    /* phase 2 is not longer than the jump width */
-#define MCP2515_FAULT_QUANTA 0x20  /* a bit is not 8 to 25 quanta */
+
+/*
+ * The rules that three bytes break, a bit for each. SAM, SOF and WAKFIL may be
+ * anything. Each rule goes by the fields, PS2 by CNF3 also where BTLMODE is clear.
+ */
+#define MCP2515_FAULT_BTLMODE 0x01     /* BTLMODE is clear */
+#define MCP2515_FAULT_SPARE 0x02       /* bits 5-3 of CNF3 are not clear */
+#define MCP2515_FAULT_PS2 0x04         /* PS2 is below 2 */
+#define MCP2515_FAULT_PROPSEG_PS1 0x08 /* PropSeg and PS1 together are shorter than PS2 */
+#define MCP2515_FAULT_SJW 0x10         /* PS2 is not longer than SJW */
+#define MCP2515_FAULT_QUANTA 0x20      /* a bit is not 8 to 25 quanta */
 int64_t mcp2515_timing_faults(uint8_t cnf1, uint8_t cnf2, uint8_t cnf3);
 
 /*

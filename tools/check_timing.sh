@@ -2,7 +2,6 @@
 # are from there. What a setting means is worked out here once more, from the data sheet.
 # shellcheck shell=bash disable=SC2154
 
-
 # prints STATUS ARGUMENT..: standard output is that of standard input, standard error is empty
 prints() {
     local wanted=$1
@@ -153,11 +152,11 @@ rules() {
     broken=()
     [ $((cnf2 / 128)) -eq 1 ] || breaks BTLMODE 'BTLMODE (CNF2 bit 7) is clear'
     [ $((cnf3 / 8 % 8)) -eq 0 ] || breaks spare 'bits 5-3 of CNF3 are not clear'
-    [ "$ps2" -ge 2 ] || breaks PS2 "PS2 is $ps2 $quanta_of_ps2; it is at least 2"
+    [ "$ps2" -ge 2 ] || breaks PS2 "PS2 is $ps2 $quanta_of_ps2; it has to be at least 2"
     [ $((prop_seg + ps1)) -ge "$ps2" ] ||
         breaks sample "PropSeg and PS1, $((prop_seg + ps1)) quanta, are shorter than PS2, $ps2"
     [ "$ps2" -gt "$sjw" ] || breaks jump "PS2 of $ps2 $quanta_of_ps2 is not longer than the jump width, $sjw"
-    [ "$quanta" -ge 8 ] || breaks quanta "a bit is $quanta quanta; it is 8 to 25"
+    [ "$quanta" -ge 8 ] || breaks quanta "a bit has $quanta quanta; it has to have 8 to 25"
     [ ${#broken[@]} -lt 2 ] || met[several]=$((met[several] + 1))
     [ ${#broken[@]} -gt 0 ] || met[sound]=$((met[sound] + 1))
 }
@@ -226,7 +225,7 @@ for cnf3 in 0E 16 26 3E; do
 done
 sound 00 86 C6 # SOF, WAKFIL
 sound 00 C6 06 # SAM
-unsound 3F BF 00 'PS2 is 1 quantum; it is at least 2' 'PS2 of 1 quantum is not longer than the jump width, 1'
+unsound 3F BF 00 'PS2 is 1 quantum; it has to be at least 2' 'PS2 of 1 quantum is not longer than the jump width, 1'
 sound 00 84 01
 unsound 40 84 01 'PS2 of 2 quanta is not longer than the jump width, 2'
 sound 40 83 02
@@ -235,16 +234,16 @@ sound C0 BF 04
 unsound 00 81 03 'PropSeg and PS1, 3 quanta, are shorter than PS2, 4'
 unsound 00 90 07 'PropSeg and PS1, 4 quanta, are shorter than PS2, 8'
 sound 00 89 03
-unsound 00 82 01 'a bit is 7 quanta; it is 8 to 25'
-unsound 00 80 01 'a bit is 5 quanta; it is 8 to 25'
+unsound 00 82 01 'a bit has 7 quanta; it has to have 8 to 25'
+unsound 00 80 01 'a bit has 5 quanta; it has to have 8 to 25'
 sound 00 83 02
 sound 00 BF 07 # 25 quanta
 unsound FF 00 3A 'BTLMODE (CNF2 bit 7) is clear' 'bits 5-3 of CNF3 are not clear' \
     'PropSeg and PS1, 2 quanta, are shorter than PS2, 3' 'PS2 of 3 quanta is not longer than the jump width, 4' \
-    'a bit is 6 quanta; it is 8 to 25'
+    'a bit has 6 quanta; it has to have 8 to 25'
 unsound C0 00 08 'BTLMODE (CNF2 bit 7) is clear' 'bits 5-3 of CNF3 are not clear' \
-    'PS2 is 1 quantum; it is at least 2' 'PS2 of 1 quantum is not longer than the jump width, 4' \
-    'a bit is 4 quanta; it is 8 to 25'
+    'PS2 is 1 quantum; it has to be at least 2' 'PS2 of 1 quantum is not longer than the jump width, 4' \
+    'a bit has 4 quanta; it has to have 8 to 25'
 say "timing --check: each rule at both of its sides, alone where it can be, and five together"
 
 prints 1 --check 0xc0 81 03h 16M 500k <<'END'
@@ -512,3 +511,17 @@ for arguments in '16M 500k' '16M 900k' '--check 00 86 06' '--check 00 06 06' '--
         stop "timing $arguments to a closed output: $(cat "$work/err")"
 done
 say "timing: --help, a full device and a closed output for a plan, none, sound and not sound"
+
+# ---- the README ----
+
+# Each command that it has for timing, and what that prints below it.
+shown=0
+while read -r arguments; do
+    # shellcheck disable=SC2086
+    run timing $arguments
+    [[ $'\n'$(cat "$root/README.md")$'\n' == *$'\n\n    build/mcp2515 timing '"$arguments"$'\n\nprints'*$'\n\n'"$(sed 's/^/    /' "$work/out")"$'\n\n'* ]] ||
+        stop "README.md does not show what timing $arguments prints: $(cat "$work/out" "$work/err")"
+    shown=$((shown + 1))
+done < <(sed -n 's/^    build\/mcp2515 timing //p' "$root/README.md")
+[ $shown -eq 2 ] || stop "README.md has $shown commands for timing"
+say "the README's plan and check, as its commands print them"

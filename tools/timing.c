@@ -195,15 +195,15 @@ static void print_faults(const struct setting *s, int64_t faults)
         puts("  BTLMODE (CNF2 bit 7) is clear");
     if (faults & MCP2515_FAULT_SPARE)
         puts("  bits 5-3 of CNF3 are not clear");
-    if (faults & MCP2515_FAULT_PHASE_2)
-        printf("  PS2 is %u %s; it is at least 2\n", s->ps2, quanta_word(s->ps2));
-    if (faults & MCP2515_FAULT_SAMPLE)
+    if (faults & MCP2515_FAULT_PS2)
+        printf("  PS2 is %u %s; it has to be at least 2\n", s->ps2, quanta_word(s->ps2));
+    if (faults & MCP2515_FAULT_PROPSEG_PS1)
         printf("  PropSeg and PS1, %u quanta, are shorter than PS2, %u\n", before, s->ps2);
-    if (faults & MCP2515_FAULT_JUMP)
-        printf("  PS2 of %u %s is not longer than the jump width, %u\n", s->ps2, quanta_word(s->ps2),
-               s->sjw);
+    if (faults & MCP2515_FAULT_SJW)
+        printf("  PS2 of %u %s is not longer than the jump width, %u\n", s->ps2,
+               quanta_word(s->ps2), s->sjw);
     if (faults & MCP2515_FAULT_QUANTA)
-        printf("  a bit is %u quanta; it is 8 to 25\n", s->quanta);
+        printf("  a bit has %u quanta; it has to have 8 to 25\n", s->quanta);
 }
 
 /* ---- the two forms ---- */
@@ -227,7 +227,7 @@ static int plan(const struct arguments *a)
         printf("none: with %" PRIu32 " Hz and %" PRIu32 " bit/s no sound setting has a difference "
                "within a thousandth of the oscillator\n",
                target.oscillator, target.rate);
-        return flush_out() == STATUS_GOOD ? STATUS_UNSOUND : STATUS_TROUBLE;
+        return flush_out() == STATUS_GOOD ? STATUS_NONE : STATUS_TROUBLE;
     }
     struct setting s = setting_of(cnf);
     print_bytes(&s);
@@ -278,11 +278,11 @@ const struct subcommand timing_command = {
             "       mcp2515 timing --check [--] CNF1 CNF2 CNF3 [OSCILLATOR RATE]\n\n"
             "Prints CNF1, CNF2 and CNF3 in hex for an oscillator of 1,000,000 to 40,000,000 Hz\n"
             "and a bit rate of 5,000 to 1,000,000 bit/s: of the sound settings the one with the\n"
-            "smallest difference, then with the lowest BRP, then with the lowest bytes. Lines\n"
-            "below say what they mean: the prescaler, each segment and the jump width in quanta,\n"
-            "the sample point, the true bit rate to three decimals, and the difference, which\n"
-            "is the oscillator less the rate times the clocks of a bit. Where the smallest is\n"
-            "more than a thousandth of the oscillator, there is no setting.\n\n"
+            "smallest size of the difference, then with the lowest BRP, then with the lowest\n"
+            "bytes. Lines below say what they mean: the prescaler, each segment and the jump\n"
+            "width in quanta, the sample point, the true bit rate to three decimals, and the\n"
+            "difference, which is the oscillator less the rate times the clocks of a bit. Where\n"
+            "its size is more than a thousandth of the oscillator, there is no setting.\n\n"
             "  --check  say of three bytes whether they are sound or which rules they break, and\n"
             "           what they mean; with OSCILLATOR and RATE, each from 1 to 4294967295 here,\n"
             "           also the true bit rate and the difference\n\n"

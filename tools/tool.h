@@ -17,6 +17,7 @@ enum {
     STATUS_GOOD = 0,
     STATUS_REFUSED = 1,
     STATUS_DIFFERENT = 1,
+    STATUS_NONE = 1,
     STATUS_UNSOUND = 1,
     STATUS_TROUBLE = 2
 };

@@ -1,9 +1,9 @@
 -- The lowest bytes of the first pair that is nearest: no sound setting is better, and if they are not within the limit none is. Assumes
 -- nothing.
-use mathlib.Core.Path.{_≡_, refl, sym, ap, _∙_}
-use mathlib.Core.Bool.{Bool, true, false, _&&_}
+use mathlib.Core.Path.{_≡_, refl, ap, _∙_}
+use mathlib.Core.Bool.{Bool, true, false}
 use mathlib.Core.List.{List, []}
-use Prim.Native.Nat.{ℕ, _+_, _-_, _*_, _/_, _%_, _<_, _≤_}
+use Prim.Native.Nat.{ℕ, _+_, _-_, _*_, _<_, _≤_}
 use native.Mathlib.Omega.{arith}
 use lib.Dec.{ltb}
 use lib.IntN.{natAbs}
@@ -12,7 +12,7 @@ use lib.Ieee.Bits.{is-true}
 use borrow.Author.Tests.{ltb-true, ltb-false, le-leb, lt-leb}
 use Rattle.bits.proofs.All.{every, agree}
 use Rattle.bit_timing.specs.declared.Setting.{Setting}
-use Rattle.bit_timing.specs.Timing.{brpOf, quantaOf, isSound, isPlain, differenceAt, differenceOf, ranksOf, isBetter, isWithin, NoneWithin, IsBest}
+use Rattle.bit_timing.specs.Timing.{brpOf, quantaOf, leastQuanta, isSound, isPlain, differenceAt, differenceOf, ranksOf, isBetter, isWithin, NoneWithin, IsBest}
 use Rattle.bit_timing.specs.Pairs.{pairs, lengths, brpAt, quantaAt, sizeAt, IsFirstLeast, settingAt}
 use Rattle.bit_timing.proofs.Ranks.{not-less}
 use Rattle.bit_timing.proofs.Sound.{Kept, kept-by}
@@ -24,26 +24,26 @@ settingOf n = settingAt (brpAt n) (quantaAt n)
 
 -- ---- of each pair it is sound and plain, with the BRP and the quanta of the pair: tests over all pairs
 module _ (n : ℕ) (inside : n < pairs) where
-  pub pair-sound : isSound (settingOf n) ≡ true
+  pair-sound : isSound (settingOf n) ≡ true
   unfolding isSound
   pair-sound = is-true _ (every (λ k. isSound (settingOf k)) pairs tt n inside)
 
-  pub pair-plain : isPlain (settingOf n) ≡ true
+  pair-plain : isPlain (settingOf n) ≡ true
   pair-plain = is-true _ (every (λ k. isPlain (settingOf k)) pairs tt n inside)
 
-  pub pair-brp : brpOf (settingOf n) ≡ brpAt n
+  pair-brp : brpOf (settingOf n) ≡ brpAt n
   pair-brp = agree (λ k. brpOf (settingOf k)) brpAt pairs tt n inside
 
-  pub pair-quanta : quantaOf (settingOf n) ≡ quantaAt n
+  pair-quanta : quantaOf (settingOf n) ≡ quantaAt n
   pair-quanta = agree (λ k. quantaOf (settingOf k)) quantaAt pairs tt n inside
 
-  pub pair-difference : (oscillator rate : ℕ) → differenceOf oscillator rate (settingOf n) ≡ differenceAt oscillator rate (brpAt n) (quantaAt n)
+  pair-difference : (oscillator rate : ℕ) → differenceOf oscillator rate (settingOf n) ≡ differenceAt oscillator rate (brpAt n) (quantaAt n)
   unfolding differenceOf
   pair-difference oscillator rate = rw (pair-brp, pair-quanta) refl
 
 -- ---- the pair of a sound setting
 abbrev pairOf : Setting → ℕ
-pairOf s = brpOf s * lengths + (quantaOf s - 8)
+pairOf s = brpOf s * lengths + (quantaOf s - leastQuanta)
 
 module _ (s : Setting) (kept : Kept s) where
   pair-inside : pairOf s < pairs
@@ -85,10 +85,11 @@ module _ (oscillator rate n : ℕ) (nearest : IsFirstLeast (sizeAt oscillator ra
         go true t = omega (arith, nearest .before (pairOf s) (ltb-true _ _ t), size-back s kept oscillator rate)
         go false t = ltb-false _ _ t
 
+    -- the ranks from place k on
     behind : ℕ → List ℕ × List ℕ
     behind k = (drop k (ranksOf oscillator rate s), drop k (ranksOf oscillator rate (settingOf n)))
 
-    pub not-better : isBetter oscillator rate s (settingOf n) ≡ false
+    not-better : isBetter oscillator rate s (settingOf n) ≡ false
     unfolding isBetter behind
     not-better =
         not-less (natAbs (differenceOf oscillator rate s)) (natAbs (differenceOf oscillator rate (settingOf n))) (behind 1 .0) (behind 1 .1) (rw size least)

@@ -1,11 +1,11 @@
 -- The clocks of a bit rate fit, and the difference is the signed number. Assumes nothing.
-use mathlib.Core.Path.{_≡_, refl, sym, ap, _∙_}
+use mathlib.Core.Path.{_≡_, refl, ap, _∙_}
 use mathlib.Core.Bool.{Bool, true, false}
 use lib.Dec.{ltb}
 use Prim.Native.Nat.{ℕ, zero, suc, _+_, _-_, _*_, _^_, _<_, _≤_}
 use native.Mathlib.Nat.{mul-le-mul, not-suc-le-zero}
 use native.Mathlib.Omega.{arith}
-use lib.IntN.{ℤ, pos, negsuc, negℤ, _-ℤ_, natAbs}
+use lib.IntN.{pos, negsuc, _-ℤ_, natAbs}
 use lib.Signed.{mag}
 use mir.Syntax.{w64}
 use mir.Val.{SFits, toZ, ofZ}
@@ -21,11 +21,11 @@ module _ (rate brp quanta : ℕ) (r : rate < 2 ^ 32) (b : brp < 64) (q : quanta 
   clocked = mul-le-mul {n₂ = 4294967295 * 2 * 64} {m₂ = 25} prescaled q
 
 -- a less b, by which is larger
-pub less-down : (a b : ℕ) → b ≤ a → pos a -ℤ pos b ≡ pos (a - b)
+less-down : (a b : ℕ) → b ≤ a → pos a -ℤ pos b ≡ pos (a - b)
 less-down a zero h = ap pos (omega arith)
 less-down a (suc b) h = rw (le-ltb a (suc b) h) refl
 
-pub less-up : (a b : ℕ) → a < b → pos a -ℤ pos b ≡ negsuc (b - suc a)
+less-up : (a b : ℕ) → a < b → pos a -ℤ pos b ≡ negsuc (b - suc a)
 less-up a zero h = absurd (not-suc-le-zero h)
 less-up a (suc b) h = rw (lt-ltb a (suc b) h) refl
 

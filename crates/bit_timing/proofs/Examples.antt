@@ -10,7 +10,7 @@ use Rattle.bits.proofs.All.{from, every}
 use Rattle.bit_timing.specs.Timing.{planRefusal, differenceOf, Planning}
 use Rattle.bit_timing.specs.TimingCases.{PlansHold}
 use Rattle.bit_timing.specs.Pairs.{pairs, sizeAt, IsFirstLeast}
-use Rattle.bit_timing.specs.declared.Planned.the-variants.{Refused, None, Found}
+use Rattle.bit_timing.specs.declared.Planned.the-variants.{None, Found}
 use Rattle.bit_timing.proofs.Best.{settingOf, best, none}
 use Rattle.bit_timing.proofs.Plans.{planning}
 
@@ -27,7 +27,7 @@ module _ (f : ℕ → ℕ) (n : ℕ) (inside : n < pairs) (tested : T (from (nea
   after k true e t = le-of-lt (ltb→lt (f n) (f k) (rw e at t))
   after k false e t = leb→le (f n) (f k) (rw e at t)
 
-  pub first-by-test : IsFirstLeast f pairs n
+  first-by-test : IsFirstLeast f pairs n
   first-by-test =
       record { inside = inside; least = λ k h. after k (ltb k n) refl (every (nearer f n) pairs tested k h); before = before }
 

@@ -1,9 +1,8 @@
 -- The rules fix the plan: two answers that are both right are the same. Assumes nothing.
 use mathlib.Core.Path.{_≡_, refl, sym, ap, _∙_}
-use mathlib.Core.Bool.{true, false}
+use mathlib.Core.Bool.{true≢false}
 use Prim.Native.Nat.{ℕ, _<_}
 use native.Mathlib.Omega.{arith}
-use lib.IntN.{ℤ}
 use Rattle.bit_timing.specs.declared.Setting.{Setting}
 use Rattle.bit_timing.specs.declared.Planned.{Planned}
 use Rattle.bit_timing.specs.declared.Planned.the-variants.{Refused, None, Found}
@@ -24,10 +23,7 @@ module _ (oscillator rate : ℕ) where
   clash n h e z = omega arith
 
   apart : (s : Setting) → IsBest oscillator rate s → NoneWithin oscillator rate → ⊥
-  apart s a none =
-      let both : true ≡ false = sym (a .within) ∙ none s (a .sound) in
-      let z : _≡_ {A = ℕ} 0 1 = cc in
-      omega arith
+  apart s a none = true≢false (sym (a .within) ∙ none s (a .sound))
 
   pub only : (p other : Planned) → IsPlan oscillator rate p → IsPlan oscillator rate other → other ≡ p
   only (Refused n) (Refused m) a b = ap Refused (b .1 ∙ sym (a .1))

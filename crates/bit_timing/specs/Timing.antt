@@ -1,6 +1,6 @@
 -- Bit timing: the fields of CNF1 to CNF3, which settings are sound, how far one is off a bit rate, and which one is planned. A setting
--- is three numbers; the fields go by remainders, so what is said of all settings is said of all three bytes. Assumes nothing: these are
--- definitions.
+-- is three numbers; its fields are remainders, so that what is said of all settings is said of all 2^24 triples of bytes, and of more.
+-- Assumes nothing: these are definitions.
 use mathlib.Core.Path.{_≡_}
 use mathlib.Core.Bool.{Bool, true, false, cond, not, _&&_, _||_}
 use mathlib.Core.List.{List, [], _∷_}
@@ -12,7 +12,11 @@ use Rattle.bit_timing.specs.declared.Setting.{Setting}
 use Rattle.bit_timing.specs.declared.Planned.{Planned}
 use Rattle.bit_timing.specs.declared.Planned.the-variants.{Refused, None, Found}
 
--- ---- the fields; lengths are in quanta
+-- CNF1, CNF2, CNF3
+abbrev pub settingBy : ℕ → ℕ → ℕ → Setting
+settingBy cnf1 cnf2 cnf3 = record { cnf1 = cnf1; cnf2 = cnf2; cnf3 = cnf3 }
+
+-- ---- the fields; lengths are in quanta. By their widths SJW is 1 to 4, BRP 0 to 63, and PropSeg, PS1 and PS2 are 1 to 8 each
 -- CNF1: SJW less 1 in bits 7-6, BRP in bits 5-0
 abbrev pub sjwOf : Setting → ℕ
 sjwOf s = s .cnf1 / 64 % 4 + 1
@@ -50,12 +54,18 @@ ps2Of s = s .cnf3 % 8 + 1
 abbrev pub quantaOf : Setting → ℕ
 quantaOf s = 1 + propSegOf s + ps1Of s + ps2Of s
 
+abbrev pub leastQuanta : ℕ
+leastQuanta = 8
+
+abbrev pub mostQuanta : ℕ
+mostQuanta = 25
+
 abbrev pub isInside : ℕ → ℕ → ℕ → Bool
 isInside least most n = leb least n && leb n most
 
 -- ---- sound settings
--- BTLMODE is set; the spare bits are clear; PS2 is at least 2; PropSeg and PS1 are at least PS2; PS2 is longer than SJW; a bit has 8 to
--- 25 quanta
+-- BTLMODE is set; the spare bits are clear; PS2 is at least 2; PropSeg and PS1 together are at least PS2; PS2 is longer than SJW; a bit
+-- has 8 to 25 quanta
 abbrev pub rulesOf : Setting → List Bool
 rulesOf s =
     hasBit (s .cnf2) BTLMODE
@@ -63,7 +73,7 @@ rulesOf s =
     ∷ leb 2 (ps2Of s)
     ∷ leb (ps2Of s) (propSegOf s + ps1Of s)
     ∷ ltb (sjwOf s) (ps2Of s)
-    ∷ isInside 8 25 (quantaOf s)
+    ∷ isInside leastQuanta mostQuanta (quantaOf s)
     ∷ []
 
 abbrev pub allKept : List Bool → Bool
@@ -74,10 +84,10 @@ allKept (kept ∷ rest) = kept && allKept rest
 unfoldable pub isSound : Setting → Bool
 isSound s = allKept (rulesOf s)
 
--- the rules that are not, as a set: bit n for rule n, counted from 0
+-- the broken rules, as a set: bit n for rule n, counted from 0; value is that of the bit for the first
 abbrev pub faultsFrom : ℕ → List Bool → ℕ
-faultsFrom bit [] = 0
-faultsFrom bit (kept ∷ rest) = cond kept 0 bit + faultsFrom (2 * bit) rest
+faultsFrom value [] = 0
+faultsFrom value (kept ∷ rest) = cond kept 0 value + faultsFrom (2 * value) rest
 
 unfoldable pub faultsOf : Setting → ℕ
 faultsOf s = faultsFrom 1 (rulesOf s)

@@ -4,7 +4,7 @@ use Prim.Native.Nat.{ℕ}
 use lib.IntN.{ℤ, pos, negℤ}
 use Rattle.bit_timing.specs.declared.Planned.{Planned}
 use Rattle.bit_timing.specs.declared.Planned.the-variants.{Refused, None, Found}
-use Rattle.bit_timing.specs.Timing.{Planning}
+use Rattle.bit_timing.specs.Timing.{settingBy, Planning}
 
 -- oscillator, rate, and what is planned
 abbrev pub Row : Type 0
@@ -12,7 +12,7 @@ Row = ℕ × ℕ × Planned
 
 -- a setting by its three bytes, with its difference
 abbrev pub found : ℕ → ℕ → ℕ → ℤ → Planned
-found cnf1 cnf2 cnf3 difference = Found (record { cnf1 = cnf1; cnf2 = cnf2; cnf3 = cnf3 }) difference
+found cnf1 cnf2 cnf3 difference = Found (settingBy cnf1 cnf2 cnf3) difference
 
 abbrev pub table : List Row
 table =
@@ -24,7 +24,7 @@ table =
     -- a thousandth of the oscillator is near enough, and no more
     ∷ (16000000, 499500, found 0x00 0x86 0x06 (pos 16000))
     ∷ (16000000, 499499, None)
-    -- an odd crystal that nothing brings near
+    -- an odd crystal for which no setting is near enough
     ∷ (14745600, 125000, None)
     -- both are out of range: the oscillator comes first
     ∷ (999999, 4999, Refused 12)

@@ -4,8 +4,13 @@ mod pairs;
 
 ghost use mathlib.Core.Path.{_≡_};
 ghost use mathlib.Core.Bool.{cond};
-ghost use Prim.Native.Nat.{_+_, _*_, _≤_, _<_};
+ghost use Prim.Native.Nat.{_≤_, _<_};
 ghost use Rattle.bit_timing.specs.Timing.{
+  brpOf,
+  sjwOf,
+  propSegOf,
+  ps1Of,
+  ps2Of,
   quantaOf,
   faultsOf,
   isSound,
@@ -37,7 +42,10 @@ pub enum Planned {
 // In CNF2.
 const BTLMODE: u8 = 128;
 
-// The lengths that a bit may have, in quanta.
+// In quanta.
+const LEAST_PS2: u32 = 2;
+
+// The lengths that a bit may have.
 const LEAST_QUANTA: u32 = 8;
 
 const MOST_QUANTA: u32 = 25;
@@ -47,11 +55,11 @@ const BTLMODE_FAULT: u32 = 1;
 
 const SPARE_FAULT: u32 = 2;
 
-const PHASE_2_FAULT: u32 = 4;
+const PS2_FAULT: u32 = 4;
 
-const SAMPLE_FAULT: u32 = 8;
+const PROPSEG_PS1_FAULT: u32 = 8;
 
-const JUMP_FAULT: u32 = 16;
+const SJW_FAULT: u32 = 16;
 
 const QUANTA_FAULT: u32 = 32;
 
@@ -64,21 +72,48 @@ const LEAST_RATE: u32 = 5_000;
 
 const MOST_RATE: u32 = 1_000_000;
 
+// A plan may be off by one part of the oscillator in so many.
+const LIMIT: u64 = 1_000;
+
 const OSCILLATOR_REFUSAL: u8 = 12;
 
 const RATE_REFUSAL: u8 = 13;
 
-// A field of a register holds a length less 1.
-fn length(field: u8) -> u32
-    ensures { λ r. ⌜ r ≡ field + 1 ⌝ }
+fn brp(setting: Setting) -> u32
+    ensures { λ r. ⌜ r ≡ brpOf setting ⌝ }
 {
-    field as u32 + 1
+    (setting.cnf1 % 64) as u32
 }
 
+fn sjw(setting: Setting) -> u32
+    ensures { λ r. ⌜ r ≡ sjwOf setting ⌝ }
+{
+    (setting.cnf1 / 64 % 4) as u32 + 1
+}
+
+fn prop_seg(setting: Setting) -> u32
+    ensures { λ r. ⌜ r ≡ propSegOf setting ⌝ }
+{
+    (setting.cnf2 % 8) as u32 + 1
+}
+
+fn ps1(setting: Setting) -> u32
+    ensures { λ r. ⌜ r ≡ ps1Of setting ⌝ }
+{
+    (setting.cnf2 / 8 % 8) as u32 + 1
+}
+
+fn ps2(setting: Setting) -> u32
+    ensures { λ r. ⌜ r ≡ ps2Of setting ⌝ }
+{
+    (setting.cnf3 % 8) as u32 + 1
+}
+
+// Of a bit, with the sync quantum.
 fn quanta(setting: Setting) -> u32
     ensures { λ r. ⌜ r ≡ quantaOf setting ⌝ }
 {
-    1 + length(setting.cnf2 % 8) + length(setting.cnf2 / 8 % 8) + length(setting.cnf3 % 8)
+    1 + prop_seg(setting) + ps1(setting) + ps2(setting)
 }
 
 fn is_inside(least: u32, most: u32, number: u32) -> bool
@@ -98,17 +133,17 @@ fn fault(kept: bool, bit: u32) -> u32
 pub fn faults(setting: Setting) -> u32
     ensures { λ r. ⌜ r ≡ faultsOf setting ⌝ }
 {
-    let sjw = length(setting.cnf1 / 64 % 4);
-    let prop_seg = length(setting.cnf2 % 8);
-    let ps1 = length(setting.cnf2 / 8 % 8);
-    let ps2 = length(setting.cnf3 % 8);
-    let quanta = quanta(setting);
+    let ps2 = ps2(setting);
+    let before = prop_seg(setting) + ps1(setting);
     fault(setting.cnf2 / BTLMODE % 2 == 1, BTLMODE_FAULT)
         + fault(setting.cnf3 / 8 % 8 == 0, SPARE_FAULT)
-        + fault(2 <= ps2, PHASE_2_FAULT)
-        + fault(ps2 <= prop_seg + ps1, SAMPLE_FAULT)
-        + fault(sjw < ps2, JUMP_FAULT)
-        + fault(is_inside(LEAST_QUANTA, MOST_QUANTA, quanta), QUANTA_FAULT)
+        + fault(LEAST_PS2 <= ps2, PS2_FAULT)
+        + fault(ps2 <= before, PROPSEG_PS1_FAULT)
+        + fault(sjw(setting) < ps2, SJW_FAULT)
+        + fault(
+            is_inside(LEAST_QUANTA, MOST_QUANTA, quanta(setting)),
+            QUANTA_FAULT,
+        )
 }
 
 // Whether every rule is kept, whoever proposed the setting.
@@ -130,7 +165,7 @@ fn clocks(rate: u32, brp: u32, quanta: u32) -> u64
 pub fn difference(oscillator: u32, rate: u32, setting: Setting) -> i64
     ensures { λ r. ⌜ r ≡ differenceOf oscillator rate setting ⌝ }
 {
-    let clocks = clocks(rate, (setting.cnf1 % 64) as u32, quanta(setting));
+    let clocks = clocks(rate, brp(setting), quanta(setting));
     oscillator as i64 - clocks as i64
 }
 
@@ -156,7 +191,7 @@ pub fn plan(oscillator: u32, rate: u32) -> Planned
         return Planned::Refused(refusal);
     }
     let pair = pairs::nearest(oscillator, rate);
-    if pairs::size(oscillator, rate, pair) * 1000 <= oscillator as u64 {
+    if pairs::size(oscillator, rate, pair) * LIMIT <= oscillator as u64 {
         let setting = pairs::setting(pair);
         let difference = difference(oscillator, rate, setting);
         return Planned::Found(setting, difference);

@@ -1,5 +1,5 @@
-// The pairs of BRP and quanta, by number: 18 lengths of a bit for each BRP. The difference hangs on nothing
-// else, so there are 1,152 to try and not 2^24 settings.
+// The pairs of BRP and quanta, by number. The difference depends on nothing else, so there are 1,152 to try
+// and not 2^24 settings.
 ghost use mathlib.Core.Path.{_≡_};
 ghost use Prim.Native.Nat.{_<_};
 ghost use Rattle.bit_timing.specs.Pairs.{
@@ -9,23 +9,28 @@ ghost use Rattle.bit_timing.specs.Pairs.{
   sizeAt,
   clockLimit,
   IsFirstLeast,
-  evenQuanta,
+  sharedQuanta,
   settingAt,
 };
 use crate::BTLMODE;
+use crate::LEAST_QUANTA;
+use crate::MOST_QUANTA;
 use crate::Setting;
 
-const LENGTHS: u32 = 18;
+const BRPS: u32 = 64;
 
-const PAIRS: u32 = 1152;
+// Of a bit, for each BRP.
+const LENGTHS: u32 = MOST_QUANTA - LEAST_QUANTA + 1;
+
+const PAIRS: u32 = BRPS * LENGTHS;
 
 // The most quanta at which PS1 can be 1.
-const EVEN_QUANTA: u32 = 18;
+const MOST_SHARED: u32 = 18;
 
 fn quanta(pair: u32) -> u32
     ensures { λ r. ⌜ r ≡ quantaAt pair ⌝ }
 {
-    8 + pair % LENGTHS
+    LEAST_QUANTA + pair % LENGTHS
 }
 
 // The size of the difference.
@@ -60,14 +65,14 @@ pub fn nearest(oscillator: u32, rate: u32) -> u32
     first
 }
 
-// The quanta that PropSeg and PS2 share, with the sync quantum and a PS1 of 1.
-fn even(quanta: u32) -> u32
-    ensures { λ r. ⌜ r ≡ evenQuanta quanta ⌝ }
+// The quanta that SyncSeg, PropSeg and PS2 share with a PS1 of 1.
+fn shared(quanta: u32) -> u32
+    ensures { λ r. ⌜ r ≡ sharedQuanta quanta ⌝ }
 {
-    if quanta < EVEN_QUANTA {
+    if quanta < MOST_SHARED {
         quanta
     } else {
-        EVEN_QUANTA
+        MOST_SHARED
     }
 }
 
@@ -77,11 +82,13 @@ pub fn setting(pair: u32) -> Setting
     ensures { λ r. ⌜ r ≡ settingAt (brpAt pair) (quantaAt pair) ⌝ }
 {
     let quanta = quanta(pair);
-    let even = even(quanta);
+    let shared = shared(quanta);
+    let first = shared / 2;
+    let second = shared - first;
     // Each less 1, as the registers have them.
-    let prop_seg = even / 2 - 2;
-    let ps1 = quanta - even;
-    let ps2 = (even - 1) / 2 - 1;
+    let prop_seg = first - 2;
+    let ps1 = quanta - shared;
+    let ps2 = second - 2;
     Setting {
         cnf1: (pair / LENGTHS) as u8,
         cnf2: (BTLMODE as u32 + ps1 * 8 + prop_seg) as u8,

@@ -1,12 +1,11 @@
 -- The call that writes a plan, by the sort of the plan. Assumes nothing.
-use mathlib.Core.Path.{_≡_, refl, sym, _∙_}
+use mathlib.Core.Path.{_≡_, refl, sym}
 use mathlib.Core.List.{List}
 use Prim.Native.Nat.{ℕ, _<_, _≤_}
 use borrow.Author.Tests.{lt-ltb, le-ltb}
 use lib.IntN.{ℤ, pos, negℤ}
 use lib.ListN.{length}
 use Rattle.bit_timing.specs.declared.Setting.{Setting}
-use Rattle.bit_timing.specs.declared.Planned.{Planned}
 use Rattle.bit_timing.specs.declared.Planned.the-variants.{Refused, None, Found}
 use Rattle.bit_timing.specs.Timing.{Planning}
 use Rattle.stand_in.specs.StandIn.{shortRefusal}

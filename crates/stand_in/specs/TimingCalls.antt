@@ -15,9 +15,6 @@ use Rattle.bus_log.specs.Run.{callResult}
 use Rattle.stand_in.specs.StandIn.{shortRefusal}
 
 -- CNF1, CNF2, CNF3
-abbrev pub settingBy : ℕ → ℕ → ℕ → Setting
-settingBy cnf1 cnf2 cnf3 = record { cnf1 = cnf1; cnf2 = cnf2; cnf3 = cnf3 }
-
 abbrev pub settingBytes : Setting → List ℕ
 settingBytes s = s .cnf1 ∷ s .cnf2 ∷ s .cnf3 ∷ []
 
@@ -33,11 +30,11 @@ abbrev pub settingAfter : Setting → List ℕ → List ℕ
 settingAfter s room = cond (ltb 0 (settingRefusal (length room))) room (settingBytes s ++ drop settingSize room)
 
 -- ---- a plan
--- the refusal: 12, then 13, then 19, also where there is none
+-- the refusal: 12, then 13, then 19, also where there is no plan
 abbrev pub planCallRefusal : ℕ → ℕ → ℕ → ℕ
 planCallRefusal oscillator rate room = firstOf (planRefusal oscillator rate) (settingRefusal room)
 
--- what a plan returns: 3, or 0 where there is none
+-- what the call returns where it is not refused: 3, or 0 where there is no plan
 abbrev pub planValue : Planned → ℕ
 planValue (Refused n) = 0
 planValue None = 0
@@ -49,7 +46,7 @@ planAfter (Refused n) cnf = cnf
 planAfter None cnf = cnf
 planAfter (Found s difference) cnf = settingAfter s cnf
 
--- what the call promises of its result x and of after, in which it leaves the room cnf: they are those of the one plan that the rules fix
+-- what the call promises: its result x, and after, what the room cnf holds then, are those of the one plan that the rules fix
 pub record PlanCall (oscillator rate : ℕ) (cnf after : List ℕ) (x : ℤ) : Type 0 where
   pub plan : Planned
   pub planned : Planning oscillator rate plan

@@ -12,7 +12,7 @@ ghost use Rattle.mcp2515.specs.ChipImage.{chipOf};
 ghost use Rattle.bus_log.specs.Run.{callResult, runResult, runAnswers};
 ghost use Rattle.bus_log.specs.From.{RunningFrom};
 ghost use Rattle.compare.specs.Compare.{compareResult, compareEntries};
-ghost use Rattle.bit_timing.specs.Timing.{isSound, faultsOf, differenceOf};
+ghost use Rattle.bit_timing.specs.Timing.{settingBy, isSound, faultsOf, differenceOf};
 ghost use Rattle.log_text.specs.Stretch.{stretchRefusal};
 ghost use Rattle.log_text.specs.Text.{TextHeld};
 ghost use Rattle.stand_in.specs.StandIn.{
@@ -25,7 +25,6 @@ ghost use Rattle.stand_in.specs.StandIn.{
   zeroOrOne,
 };
 ghost use Rattle.stand_in.specs.TimingCalls.{
-  settingBy,
   settingSize,
   settingRefusal,
   settingAfter,

@@ -1,13 +1,13 @@
-use mathlib.Core.Path.{_≡_, refl, sym, ap, _∙_}
+use mathlib.Core.Path.{_∙_}
 use native.Mathlib.Omega.{arith}
-use borrow.Author.Needs.{needs}
-use Rattle.bit_timing.specs.Timing.{clocksAt, differenceOf}
+use Rattle.bit_timing.specs.Timing.{differenceOf}
 use Rattle.bit_timing.proofs.Differences.{difference-fits, difference-is}
+use borrow.Author.Needs.{needs}
 use Rattle.bit_timing.proofs.difference.Statement.{statement}
 use Rattle.bit_timing.proofs.difference.Tie as tie
 
-cast-clocks : tie.Need-cast-clocks
-cast-clocks c = search needs
+brp-requires : tie.Need-brp-requires
+brp-requires c κs = search needs
 
 quanta-requires : tie.Need-quanta-requires
 quanta-requires c κs = search needs
@@ -27,15 +27,14 @@ sub-result c = difference-fits (c .before .before .before .args .oscillator) (c 
 returns : tie.Need-returns
 unfolding differenceOf
 returns c =
-    let clocks = c .clocks .ensures .0 ∙ ap (clocksAt _ _) (c .before .quanta .ensures) in
     difference-is (c .before .before .before .args .oscillator) (c .clocks .result) (omega arith) (omega arith)
-    ∙ rw clocks refl
+    ∙ rw (c .clocks .ensures .0, c .before .quanta .ensures, c .before .before .brp .ensures)
 
 pub difference-spec : {M : Type 1} → statement M
 difference-spec =
     tie.close
     (tie.spec
-    cast-clocks
+    brp-requires
     quanta-requires
     clocks-requires
     cast-result

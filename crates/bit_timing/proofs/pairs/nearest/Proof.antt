@@ -1,20 +1,19 @@
 -- The loop's invariant: of the pairs passed, `first` is the first that is nearest, and `least` its size. The measure is what is left.
-use mathlib.Core.Path.{_≡_, refl, sym, _∙_}
+use mathlib.Core.Path.{_≡_, refl, _∙_}
 use mathlib.Core.Logic.{⊎-elim}
 use Prim.Native.Nat.{_≤_, _-_}
 use native.Mathlib.Omega.{arith}
-use borrow.Author.Needs.{needs}
-use Rattle.bit_timing.specs.Pairs.{sizeAt, IsFirstLeast}
+use Rattle.bit_timing.specs.Pairs.{pairs, sizeAt, IsFirstLeast}
 use Rattle.bit_timing.proofs.Least.{one, kept, moved}
 use Rattle.bit_timing.proofs.pairs.nearest.Statement.{statement}
 use Rattle.bit_timing.proofs.pairs.nearest.Tie as tie
 
 abbrev Inv-loop : tie.InvT-loop
 Inv-loop oscillator rate first₀ least₀ pair₀ first least pair =
-    (pair ≤ 1152) × (least ≡ sizeAt oscillator rate first) × IsFirstLeast (sizeAt oscillator rate) pair first
+    (pair ≤ pairs) × (least ≡ sizeAt oscillator rate first) × IsFirstLeast (sizeAt oscillator rate) pair first
 
 abbrev μ-loop : tie.MeasureT-loop
-μ-loop oscillator rate first₀ least₀ pair₀ first least pair = 1152 - pair
+μ-loop oscillator rate first₀ least₀ pair₀ first least pair = pairs - pair
 
 size-requires : tie.Need-size-requires Inv-loop μ-loop
 size-requires c κs = omega arith
@@ -42,7 +41,7 @@ loop-again c =
 
 returns : tie.Need-returns Inv-loop μ-loop
 returns c =
-    let end : c .before .loop .pair ≡ 1152 = omega arith in
+    let end : c .before .loop .pair ≡ pairs = omega arith in
     rw (← end) (c .before .loop .inv .2)
 
 pub nearest-spec : {M : Type 1} → statement M
