@@ -9,7 +9,7 @@ CC = gcc
 CFLAGS = -std=c11 -O2 -Wall -Wextra -Werror
 TOOL = build/mcp2515
 TOOL_FILES = $(wildcard tools/*.c)
-EXAMPLES = build/whole_log build/compare_logs build/live build/timing
+EXAMPLES = build/whole_log build/compare_logs build/live build/timing build/load
 
 # Where `make install` puts things; DESTDIR goes in front of all of it.
 PREFIX = /usr/local
@@ -102,4 +102,4 @@ help:
 	@echo "make check      the whole gate: tests, proofs from nothing, must-fail edits (25 to 45 minutes)"
 	@echo "make clean      remove what was built"
 	@echo "ARCHIVE=.. takes another archive, REPLAY=.. another replay program"
-	@echo "make -C bench check | compare | live | pairs | timing | same | header | speed | stack | mutate    the C side alone; see bench/Makefile"
+	@echo "make -C bench check | compare | live | pairs | timing | loader | same | header | speed | stack | mutate    the C side alone; see bench/Makefile"

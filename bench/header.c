@@ -16,6 +16,9 @@ enum {
     ENTRY = MCP2515_ENTRY_SIZE,
     LINE = MCP2515_LINE_SIZE,
     TIMING = MCP2515_TIMING_SIZE,
+    PROFILE = MCP2515_PROFILE_SIZE,
+    EVENT = MCP2515_EVENT_SIZE,
+    LOAD_ROOM = RECORD * MCP2515_LOAD_RECORDS,
     ALL_FILTERS = 0x3F
 };
 
@@ -51,6 +54,13 @@ static void check_sizes(void)
     expect("refusal for a rate", 13, MCP2515_REFUSED_RATE);
     expect("refusal for too little room", 19, MCP2515_REFUSED_SHORT);
     expect("its name of before", MCP2515_REFUSED_SHORT, MCP2515_REFUSED_CHIP_ROOM);
+    expect("bytes of a profile", 34, PROFILE);
+    expect("bytes of an event", 20, EVENT);
+    expect("records of the loader", 357, MCP2515_LOAD_RECORDS);
+    expect("refusal for a profile", 10, MCP2515_REFUSED_PROFILE);
+    expect("refusal for a mode", 11, MCP2515_REFUSED_MODE);
+    expect("waiting", 0, MCP2515_LOAD_WAITING);
+    expect("in", 1, MCP2515_LOAD_IN);
 }
 
 /* Three numbers with a dot between, as pkg-config has to sort them. */
@@ -394,6 +404,80 @@ static void check_plan(void)
     expect("the bytes of before", 0, memcmp(cnf, want, TIMING));
 }
 
+/* Both calls of the loader on a chip. The records come where the load is not refused; no entry
+ * is an event, so that there are no others than the loader's own. */
+static void check_both(const char *what, int64_t want, uint8_t *chip, size_t chip_len,
+                       const uint8_t *profile, size_t profile_len, const uint8_t *events,
+                       size_t events_len)
+{
+    static uint8_t records[LOAD_ROOM];
+    int64_t count = want < 0 ? want : want == MCP2515_LOAD_IN ? MCP2515_LOAD_RECORDS : 17;
+    size_t room = want == MCP2515_LOAD_WAITING ? 17 * RECORD : LOAD_ROOM;
+    expect(what, count,
+           mcp2515_load_records(chip, chip_len, profile, profile_len, events, events_len, records,
+                                room));
+    expect(what, want < 0 ? want : -MCP2515_REFUSED_SHORT,
+           mcp2515_load_records(chip, chip_len, profile, profile_len, events, events_len, records,
+                                room - 1));
+    expect(what, want < 0 ? want : -MCP2515_REFUSED_SHORT,
+           mcp2515_load_records(chip, chip_len, profile, profile_len, events, events_len, NULL, 0));
+    expect(what, want,
+           mcp2515_load_profile(chip, chip_len, profile, profile_len, events, events_len));
+}
+
+static void check_load_lengths(void)
+{
+    uint8_t chip[CHIP + 1], profile[PROFILE + 1] = {0}, events[2 * EVENT + 1] = {0};
+    mcp2515_power_on(chip, CHIP);
+    check_both("a load", MCP2515_LOAD_IN, chip, CHIP, profile, PROFILE, NULL, 0);
+    check_both("with an entry", MCP2515_LOAD_IN, chip, CHIP, profile, PROFILE, events, EVENT);
+    check_both("with two", MCP2515_LOAD_IN, chip, CHIP, profile, PROFILE, events, 2 * EVENT);
+    check_both("an entry short of a byte", -MCP2515_REFUSED_LENGTH, chip, CHIP, profile, PROFILE,
+               events, EVENT - 1);
+    check_both("an entry with a byte more", -MCP2515_REFUSED_LENGTH, chip, CHIP, profile, PROFILE,
+               events, EVENT + 1);
+    check_both("a profile short of a byte", -MCP2515_REFUSED_LENGTH, chip, CHIP, profile,
+               PROFILE - 1, NULL, 0);
+    check_both("a profile with a byte more", -MCP2515_REFUSED_LENGTH, chip, CHIP, profile,
+               PROFILE + 1, NULL, 0);
+    check_both("no profile", -MCP2515_REFUSED_LENGTH, chip, CHIP, NULL, 0, NULL, 0);
+    check_both("a chip short of a byte", -MCP2515_REFUSED_NO_CHIP, chip, CHIP - 1, profile, PROFILE,
+               NULL, 0);
+    check_both("a chip with a byte more", -MCP2515_REFUSED_NO_CHIP, chip, CHIP + 1, profile,
+               PROFILE, NULL, 0);
+    check_both("no chip", -MCP2515_REFUSED_NO_CHIP, NULL, 0, NULL, 0, NULL, 0);
+    chip[MCP2515_PLACE_VERSION]++;
+    check_both("a chip of another version", -MCP2515_REFUSED_NO_CHIP, chip, CHIP, NULL, 0, NULL, 0);
+}
+
+static void check_load(void)
+{
+    uint8_t chip[CHIP], profile[PROFILE] = {0x24, 0x60, [32] = 0x64, [33] = 0x60};
+    mcp2515_power_on(chip, CHIP);
+    write_register(chip, 0x0F, 0x00); /* Normal */
+    check_both("a load from Normal", MCP2515_LOAD_IN, chip, CHIP, profile, PROFILE, NULL, 0);
+    expect("the filter is there", 0x24, mcp2515_hold(chip, CHIP, 0x00));
+    expect("RXB0CTRL, bit 1 copies bit 2", 0x66, mcp2515_hold(chip, CHIP, 0x60));
+    expect("Normal again", 0x00, mcp2515_read(chip, CHIP, 0x0E));
+    write_register(chip, 0x40, 0x08); /* TXREQ of TXB1 */
+    profile[0]++;
+    check_both("a load that waits", MCP2515_LOAD_WAITING, chip, CHIP, profile, PROFILE, NULL, 0);
+    expect("the filter of before", 0x24, mcp2515_hold(chip, CHIP, 0x00));
+    profile[33] = 0x04;
+    check_both("a bit that is not writable", -MCP2515_REFUSED_PROFILE, chip, CHIP, profile, PROFILE,
+               NULL, 0);
+    write_register(chip, 0x40, 0x00);
+    write_register(chip, 0x0F, 0x20); /* Sleep */
+    check_both("that bit in Sleep", -MCP2515_REFUSED_PROFILE, chip, CHIP, profile, PROFILE, NULL,
+               0);
+    one_record(chip, 0, 0);
+    check_both("and with select low", -MCP2515_REFUSED_SELECT, chip, CHIP, profile, PROFILE, NULL,
+               0);
+    one_record(chip, 2, 0);
+    profile[33] = 0x00;
+    check_both("a load in Sleep", -MCP2515_REFUSED_MODE, chip, CHIP, profile, PROFILE, NULL, 0);
+}
+
 int main(void)
 {
     check_sizes();
@@ -412,6 +496,8 @@ int main(void)
     check_line();
     check_faults();
     check_plan();
+    check_load_lengths();
+    check_load();
     printf("header: %u checks of sizes, places and limits agree\n", checked);
     return 0;
 }

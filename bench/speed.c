@@ -4,9 +4,10 @@
  * mcp2515_step_set in parts of the whole-log call; the same for logs of hardly
  * anything but frames, by the frame; records a second and peak memory of the
  * replay program; then mcp2515_compare_logs in parts of the runs of its logs,
- * and mcp2515_plan_timing by the plan. An older archive that is linked in (make
- * speed BEFORE=..) is timed beside, on whole logs; of it only mcp2515_run_log is
- * called. The status is 1 if a ratio or a plan is over its limit.
+ * mcp2515_plan_timing by the plan, and the profile loader by the load. An older
+ * archive that is linked in (make speed BEFORE=..) is timed beside, on whole logs;
+ * of it only mcp2515_run_log is called. The status is 1 if a ratio, a plan or a
+ * load is over its limit.
  *
  *   speed replay log-file-to-write
  */
@@ -413,7 +414,7 @@ int main(int argc, char **argv)
     bool frames = time_sorts(by_frame, sizeof by_frame / sizeof *by_frame, log);
     time_replay(argv[1], argv[2]); /* before the pairs: a fork counts the memory of this program */
     free(log);
-    bool pairs = time_all_pairs(), plans = time_plans();
+    bool pairs = time_all_pairs(), plans = time_plans(), loads = time_loads();
     if (!records || !frames)
         fprintf(stderr, "logs rich in frames: more than %.2f times the archive before\n",
                 frames_limit);
@@ -421,5 +422,7 @@ int main(int argc, char **argv)
         fprintf(stderr, "comparing two logs: a ratio is over its limit\n");
     if (!plans)
         fprintf(stderr, "planning bit timing: a plan takes longer than its limit\n");
-    return records && frames && pairs && plans ? 0 : 1;
+    if (!loads)
+        fprintf(stderr, "loading a profile: a load takes longer than its limit\n");
+    return records && frames && pairs && plans && loads ? 0 : 1;
 }

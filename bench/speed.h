@@ -30,4 +30,7 @@ void print_pairs_head(void);
  * limit. */
 bool time_plans(void);
 
+/* speed_loader.c: times a load beside the model. False if one is over its limit. */
+bool time_loads(void);
+
 #endif

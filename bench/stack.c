@@ -22,8 +22,9 @@
 
 enum { STACK = 1 << 20, PAINT = 0x5C, RECORDS = 4096, STEP_KIB = 4, MOST_KIB = 8192 };
 
-/* Comparing holds the answers of two blocks; replay its buffers, beside what the system needs. */
-enum { CALL_LIMIT = 1024, COMPARE_LIMIT = 9 * 1024, REPLAY_LIMIT_KIB = 160 };
+/* Comparing holds the answers of two blocks, the loader some chips; replay its buffers, beside
+ * what the system needs. */
+enum { CALL_LIMIT = 1024, COMPARE_LIMIT = 9 * 1024, LOAD_LIMIT = 4 * 1024, REPLAY_LIMIT_KIB = 160 };
 
 static uint8_t chip[MCP2515_CHIP_SIZE];
 static uint8_t records[RECORDS * MCP2515_RECORD_SIZE];
@@ -132,6 +133,56 @@ static void do_timing_difference(void)
     out[0] = (uint8_t)mcp2515_timing_difference(20000000, 125000, 0x04, 0xB1, 0x05);
 }
 
+static void send_session(uint8_t *to, const uint8_t *bytes, size_t count)
+{
+    uint8_t record[MCP2515_RECORD_SIZE] = {0}, answer[MCP2515_ANSWER_SIZE];
+    mcp2515_step(to, MCP2515_CHIP_SIZE, record, sizeof record, answer, sizeof answer);
+    for (size_t i = 0; i < count; i++) {
+        record[0] = 1;
+        record[1] = bytes[i];
+        mcp2515_step(to, MCP2515_CHIP_SIZE, record, sizeof record, answer, sizeof answer);
+    }
+    record[0] = 2;
+    record[1] = 0;
+    mcp2515_step(to, MCP2515_CHIP_SIZE, record, sizeof record, answer, sizeof answer);
+}
+
+/* A chip that a load goes into and one that it waits for; entries of the log's records. */
+enum { ENTRIES = 200 };
+static uint8_t ready[MCP2515_CHIP_SIZE], waiting[MCP2515_CHIP_SIZE];
+static uint8_t events[ENTRIES * MCP2515_EVENT_SIZE];
+static const uint8_t profile[MCP2515_PROFILE_SIZE] = {0x24, 0x60, [32] = 0x64, [33] = 0x60};
+
+static void do_load_profile(void)
+{
+    memcpy(chip, ready, sizeof chip);
+    mcp2515_load_profile(chip, sizeof chip, profile, sizeof profile, events, sizeof events);
+    memcpy(chip, waiting, sizeof chip);
+    mcp2515_load_profile(chip, sizeof chip, profile, sizeof profile, events, sizeof events);
+}
+
+static void do_load_records(void)
+{
+    mcp2515_load_records(ready, sizeof ready, profile, sizeof profile, events, sizeof events, out,
+                         sizeof out);
+    mcp2515_load_records(waiting, sizeof waiting, profile, sizeof profile, events, sizeof events,
+                         out, sizeof out);
+}
+
+static void make_loads(void)
+{
+    static const uint8_t normal[] = {0x02, 0x0F, 0x00}, rts[] = {0x81};
+    mcp2515_power_on(ready, sizeof ready);
+    send_session(ready, normal, sizeof normal);
+    memcpy(waiting, ready, sizeof waiting);
+    send_session(waiting, rts, sizeof rts);
+    for (unsigned i = 0; i < ENTRIES; i++) {
+        uint8_t *entry = events + MCP2515_EVENT_SIZE * i;
+        entry[3] = (uint8_t)(i / 3); /* about three a gap */
+        memcpy(entry + 4, records + MCP2515_RECORD_SIZE * i, MCP2515_RECORD_SIZE);
+    }
+}
+
 static const struct call {
     const char *name;
     void (*run)(void);
@@ -153,6 +204,8 @@ static const struct call {
     {"mcp2515_check_timing", do_check_timing, CALL_LIMIT},
     {"mcp2515_timing_faults", do_timing_faults, CALL_LIMIT},
     {"mcp2515_timing_difference", do_timing_difference, CALL_LIMIT},
+    {"mcp2515_load_profile", do_load_profile, LOAD_LIMIT},
+    {"mcp2515_load_records", do_load_records, LOAD_LIMIT},
 };
 
 struct painted {
@@ -223,6 +276,7 @@ static bool measure_calls(void)
 {
     bool good = true;
     mcp2515_power_on(chip, sizeof chip);
+    make_loads();
     for (size_t i = 0; i < sizeof calls / sizeof *calls; i++) {
         size_t used = stack_used(&calls[i]);
         printf("%-25s %6zu bytes of stack\n", calls[i].name, used);

@@ -61,7 +61,7 @@
 extern "C" {
 #endif
 
-#define MCP2515_VERSION "0.5.0" /* of header, archive and tool */
+#define MCP2515_VERSION "0.6.0" /* of header, archive and tool */
 
 #define MCP2515_RECORD_SIZE 16
 #define MCP2515_ANSWER_SIZE 2     /* refusal and answer of one record */
@@ -70,6 +70,9 @@ extern "C" {
 #define MCP2515_MOST_RECORDS 65535
 #define MCP2515_LINE_SIZE 23  /* room for a line of the replay's text */
 #define MCP2515_TIMING_SIZE 3 /* CNF1, CNF2, CNF3 */
+#define MCP2515_PROFILE_SIZE 34
+#define MCP2515_EVENT_SIZE 20    /* a bus event between the loader's commands */
+#define MCP2515_LOAD_RECORDS 357 /* the most records that the loader itself sends */
 
 /*
  * A chip is 152 bytes that the program holds, copies, saves and loads as it
@@ -125,12 +128,14 @@ extern "C" {
 #define MCP2515_REFUSED_SPEAKER 18  /* exchange or select high by the one who did not select */
 
 /* Refusals of a call, returned as negative numbers. */
-#define MCP2515_REFUSED_LENGTH 6      /* no whole number of records */
+#define MCP2515_REFUSED_LENGTH 6      /* no whole number of records or events, no profile */
 #define MCP2515_REFUSED_ROOM 7        /* too little room for answers, text or entries */
 #define MCP2515_REFUSED_COUNT 8       /* more than 65,535 records */
+#define MCP2515_REFUSED_PROFILE 10    /* a profile with a bit set that is not writable */
+#define MCP2515_REFUSED_MODE 11       /* a mode other than Normal, Listen-Only or Configuration */
 #define MCP2515_REFUSED_OSCILLATOR 12 /* an oscillator outside 1,000,000 to 40,000,000 Hz */
 #define MCP2515_REFUSED_RATE 13       /* a bit rate outside 5,000 to 1,000,000 bit/s */
-#define MCP2515_REFUSED_SHORT 19      /* too little room for a chip, or for CNF1 to CNF3 */
+#define MCP2515_REFUSED_SHORT 19      /* too little room for a chip, CNF1 to CNF3, or records */
 #define MCP2515_REFUSED_NO_CHIP 21    /* the bytes are no chip: length or version */
 
 #define MCP2515_REFUSED_CHIP_ROOM MCP2515_REFUSED_SHORT /* its name up to 0.4.0 */
@@ -310,6 +315,71 @@ int64_t mcp2515_timing_difference(uint32_t oscillator, uint32_t rate, uint8_t cn
  *   otherwise 3, with CNF1, CNF2, CNF3 in cnf[0] to cnf[2]; bytes past them stay
  */
 int64_t mcp2515_plan_timing(uint32_t oscillator, uint32_t rate, uint8_t *cnf, size_t cnf_len);
+
+/*
+ * The loader: a profile of filters and masks brought into a chip, as the
+ * controller would over SPI. A profile is 34 bytes:
+ *
+ *   0-23   the filters 0 to 5, each SIDH, SIDL, EID8, EID0 (at 00h to 0Bh and 10h
+ *          to 1Bh); of SIDL the bits EBh may be set
+ *   24-31  the masks 0 and 1, likewise (at 20h to 27h); of SIDL the bits E3h
+ *   32     RXB0CTRL (60h); the bits 64h: RXM and BUKT
+ *   33     RXB1CTRL (70h); the bits 60h: RXM
+ *
+ * It sends whole commands, each one session: BIT MODIFY of CANCTRL (0Fh) by mask
+ * E0h to ask for Configuration; READ of CANSTAT (0Eh), its one look at the mode.
+ * If that is Configuration, it WRITEs the 34 bytes, READs all of them back, and
+ * asks for the mode at the start by a BIT MODIFY: 71 commands. If it is not, it
+ * asks for the mode at the start and has written nothing: 3 commands. The mode at
+ * the start is the mode that the chip is in, not what CANCTRL asks for; a mode
+ * request that someone else left is dropped by the first command. The other bits of
+ * CANCTRL are as they were. Both error counters are 0 after an entry into
+ * Configuration, which ends bus-off too; a load that waits can pass through it when
+ * the message goes out after the look.
+ *
+ * After a load the mode is the one at the start, and no mode request is left: of
+ * every chip that a run reaches. Of lent bytes with a mode request that could be
+ * carried out at once, which no run leaves, the first select low carries it out.
+ *
+ * Bus events may come between its commands: events has entries of 20 bytes, in
+ * four bytes, high first, after how many commands it comes, then its record. They
+ * come in their order. 0 counts as 1; one whose place has gone by comes at once;
+ * those due after the last command do not come. An entry that is no bus event
+ * (kinds 3 to 8) is passed over, wherever it stands. An event that the chip
+ * refuses comes, and changes nothing.
+ */
+#define MCP2515_LOAD_WAITING 0
+#define MCP2515_LOAD_IN 1
+
+/*
+ * Loads a profile into the chip lent. The first that applies decides:
+ *
+ *   -21  no chip
+ *   -6   profile_len is not 34, or events_len is no multiple of 20
+ *   -1   select is low
+ *   -10  the profile has a bit set that is not writable
+ *   -11  the mode is not Normal, Listen-Only or Configuration
+ *   0    waiting: Configuration was not reached, since a message waits to be sent or
+ *        is being sent; no profile byte was written
+ *   1    in: the chip holds the profile
+ *
+ * Refused, nothing is sent and no byte of the chip changes.
+ */
+int64_t mcp2515_load_profile(uint8_t *chip, size_t chip_len, const uint8_t *profile,
+                             size_t profile_len, const uint8_t *events, size_t events_len);
+
+/*
+ * The records of that run, its own and the events as they came, one after the
+ * other; run by the same chip, they are the load. The chip lent stays.
+ *
+ *   -21, -6, -1, -10, -11 as there
+ *   -19  records_len is below 16 bytes for each record of the run;
+ *        16 * (357 + events_len / 20) is always enough
+ *   otherwise how many records; bytes past them stay
+ */
+int64_t mcp2515_load_records(const uint8_t *chip, size_t chip_len, const uint8_t *profile,
+                             size_t profile_len, const uint8_t *events, size_t events_len,
+                             uint8_t *records, size_t records_len);
 
 #ifdef __cplusplus
 }

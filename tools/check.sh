@@ -334,5 +334,9 @@ say "--help, --version, bad arguments, --"
 . "$root/tools/check_panel.sh"
 # shellcheck source=tools/check_timing.sh
 . "$root/tools/check_timing.sh"
+# shellcheck source=tools/check_profile.sh
+. "$root/tools/check_profile.sh"
+# shellcheck source=tools/check_load.sh
+. "$root/tools/check_load.sh"
 
 echo "tool check: $tried groups passed"

@@ -11,17 +11,11 @@
 
 /* ---- running the log ---- */
 
-struct ran {
-    uint8_t chip[MCP2515_CHIP_SIZE];
-    size_t records;
-    size_t refused;
-};
-
-static int run_log(const struct input *in, struct ran *ran)
+int run_log(const struct input *in, struct ran *ran)
 {
     static uint8_t log[MOST_LOG + MCP2515_RECORD_SIZE]; /* one record more shows refusal 8 */
     static uint8_t answers[MCP2515_MOST_RECORDS * MCP2515_ANSWER_SIZE];
-    ssize_t length = read_log(in, log, sizeof log);
+    ssize_t length = read_all(in, log, sizeof log);
     if (length < 0)
         return STATUS_TROUBLE;
     mcp2515_power_on(ran->chip, sizeof ran->chip);
@@ -86,6 +80,12 @@ static const char *mode_name(unsigned mode)
     return mode < sizeof names / sizeof *names ? names[mode] : "none";
 }
 
+const char *mode_of(const uint8_t *chip)
+{
+    enum { CANSTAT = 0x0E };
+    return mode_name((unsigned)mcp2515_hold(chip, MCP2515_CHIP_SIZE, CANSTAT) >> 5); /* OPMOD */
+}
+
 static uint8_t held(const struct ran *ran, unsigned address)
 {
     return (uint8_t)mcp2515_hold(ran->chip, sizeof ran->chip, (uint8_t)address);
@@ -126,32 +126,32 @@ static void print_register(const struct ran *ran, const struct named_register *r
 
 /* ---- identifiers ---- */
 
-/* Four bytes from an address on: SIDH, SIDL, EID8, EID0. */
-struct identifier {
-    unsigned sid;
-    uint32_t eid;
-    bool extended;
-    uint8_t sidl;
-    uint8_t eid8, eid0;
-};
-
-static struct identifier identifier_at(const struct ran *ran, unsigned address)
+struct identifier identifier_of(const uint8_t *bytes)
 {
-    struct identifier id;
-    uint8_t sidh = held(ran, address);
-    id.sidl = held(ran, address + 1);
-    id.eid8 = held(ran, address + 2);
-    id.eid0 = held(ran, address + 3);
-    id.sid = (unsigned)sidh << 3 | id.sidl >> 5;
+    struct identifier id = {.sidl = bytes[1], .eid8 = bytes[2], .eid0 = bytes[3]};
+    id.sid = (unsigned)bytes[0] << 3 | id.sidl >> 5;
     id.eid = (uint32_t)(id.sidl & 3) << 16 | (uint32_t)id.eid8 << 8 | id.eid0;
     id.extended = (id.sidl & 0x08) != 0;
     return id;
 }
 
+uint32_t extended_number(const struct identifier *id)
+{
+    return (uint32_t)id->sid << 18 | id->eid;
+}
+
+static struct identifier identifier_at(const struct ran *ran, unsigned address)
+{
+    uint8_t bytes[4];
+    for (unsigned i = 0; i < sizeof bytes; i++)
+        bytes[i] = held(ran, address + i);
+    return identifier_of(bytes);
+}
+
 static void print_identifier(const struct identifier *id)
 {
     if (id->extended)
-        printf("extended %08" PRIX32 "h", (uint32_t)id->sid << 18 | id->eid);
+        printf("extended %08" PRIX32 "h", extended_number(id));
     else
         printf("standard %03Xh", id->sid);
 }
@@ -191,7 +191,7 @@ static void print_mask(const struct ran *ran, unsigned n, unsigned address)
 {
     struct identifier id = identifier_at(ran, address);
     printf("RXM%u           standard %03Xh, data bytes %02Xh %02Xh; extended %08" PRIX32 "h\n", n,
-           id.sid, id.eid8, id.eid0, (uint32_t)id.sid << 18 | id.eid);
+           id.sid, id.eid8, id.eid0, extended_number(&id));
 }
 
 /* ---- the whole chip ---- */
@@ -213,7 +213,7 @@ static void print_state(const struct ran *ran)
     uint8_t request = ran->chip[MCP2515_PLACE_MODE_REQUESTED];
     uint8_t flight = ran->chip[MCP2515_PLACE_FLIGHT];
     printf("records        %zu, refused %zu\n", ran->records, ran->refused);
-    printf("mode           %s", mode_name(held(ran, 0x0E) >> 5));
+    printf("mode           %s", mode_of(ran->chip));
     if (request < 5)
         printf(", %s is requested and waits", mode_name(request));
     printf("\nINT            %s\n",

@@ -31,7 +31,7 @@ struct comparison {
  */
 static int read_whole(struct log *log)
 {
-    ssize_t got = read_log(&log->in, log->bytes, sizeof log->bytes);
+    ssize_t got = read_all(&log->in, log->bytes, sizeof log->bytes);
     if (got < 0)
         return STATUS_TROUBLE;
     log->length = (size_t)got;

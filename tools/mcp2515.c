@@ -8,8 +8,9 @@
 #include "mcp2515.h"
 #include "tool.h"
 
-static const struct subcommand *const subcommands[] = {&replay_command, &chip_command,
-                                                       &compare_command, &timing_command};
+static const struct subcommand *const subcommands[] = {&replay_command,  &chip_command,
+                                                       &compare_command, &timing_command,
+                                                       &load_command,    &profile_command};
 enum { SUBCOMMANDS = sizeof subcommands / sizeof *subcommands };
 
 static int print_help(void)
@@ -21,8 +22,8 @@ static int print_help(void)
         printf("  %-8s %s\n", subcommands[i]->name, subcommands[i]->summary);
     puts("\n'mcp2515 COMMAND --help' says more. In place of a file, - is standard input;\n"
          "-- ends the options. Exit status: 0 good; 1 a replayed log ended in refusal 6 or\n"
-         "8, two compared logs are not the same, there is no setting for a bit rate, or a\n"
-         "checked one is not sound; 2 trouble.");
+         "8, two compared logs are not the same, there is no setting for a bit rate, a checked\n"
+         "one is not sound, or a profile to load has to wait; 2 trouble.");
     return flush_out();
 }
 

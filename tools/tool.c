@@ -3,6 +3,7 @@
 
 #include <errno.h>
 #include <fcntl.h>
+#include <limits.h>
 #include <stdio.h>
 #include <string.h>
 #include <sys/stat.h>
@@ -57,18 +58,23 @@ const char *refusal_text(int64_t refusal)
     return "refused";
 }
 
-int write_out(const uint8_t *bytes, size_t length)
+static bool write_all(int file, const uint8_t *bytes, size_t length)
 {
     while (length > 0) {
-        ssize_t written = write(STDOUT_FILENO, bytes, length);
+        ssize_t written = write(file, bytes, length);
         if (written < 0 && errno == EINTR)
             continue;
         if (written < 0)
-            return trouble_errno("standard output");
+            return false;
         bytes += written;
         length -= (size_t)written;
     }
-    return STATUS_GOOD;
+    return true;
+}
+
+int write_out(const uint8_t *bytes, size_t length)
+{
+    return write_all(STDOUT_FILENO, bytes, length) ? STATUS_GOOD : trouble_errno("standard output");
 }
 
 int flush_out(void)
@@ -119,32 +125,51 @@ static bool read_number(const char *text, size_t *number)
     return true;
 }
 
-/* The option that an argument NAME or NAME=N names, or NULL. */
-static const struct number_option *find_number(const struct arguments *a, const char *argument)
+/* Whether an argument is NAME or NAME=VALUE. */
+static bool names_option(const char *argument, const char *name)
 {
     size_t length = strcspn(argument, "=");
-    for (size_t i = 0; i < a->number_count; i++) {
-        const char *name = a->numbers[i].name;
-        if (strlen(name) == length && strncmp(argument, name, length) == 0)
-            return &a->numbers[i];
-    }
-    return NULL;
+    return strlen(name) == length && strncmp(argument, name, length) == 0;
 }
 
-/* The option at argv[*at]; its number may be the argument after it, which is taken too. */
+/* The value of the option at argv[*at]; where it is the argument after it, that is taken too. */
+static const char *take_value(char **argv, int *at)
+{
+    const char *equals = strchr(argv[*at], '=');
+    return equals != NULL ? equals + 1 : argv[++*at]; /* argv ends with NULL */
+}
+
+static int take_number(const struct subcommand *c, const struct number_option *option,
+                       const char *value)
+{
+    if (value == NULL || !read_number(value, option->number))
+        return number_trouble(c, option->name, value);
+    return GO_ON;
+}
+
+static int take_file(const struct subcommand *c, const struct file_option *option,
+                     const char *value)
+{
+    if (value == NULL || value[0] == '\0') {
+        fprintf(stderr, "mcp2515: %s: %s needs a file\n", c->name, option->name);
+        return point_to_help(c);
+    }
+    *option->path = value;
+    return GO_ON;
+}
+
 static int take_option(const struct subcommand *c, char **argv, int *at, const struct arguments *a)
 {
     const char *argument = argv[*at];
     if (take_flag(a, argument))
         return GO_ON;
-    const struct number_option *option = find_number(a, argument);
-    if (option == NULL)
-        return usage_trouble(c, "unknown option", argument);
-    const char *equals = strchr(argument, '=');
-    const char *value = equals != NULL ? equals + 1 : argv[++*at]; /* argv ends with NULL */
-    if (value == NULL || !read_number(value, option->number))
-        return number_trouble(c, option->name, value);
-    return GO_ON;
+    for (size_t i = 0; i < a->number_count; i++)
+        if (names_option(argument, a->numbers[i].name))
+            return take_number(c, &a->numbers[i], take_value(argv, at));
+    for (size_t i = 0; i < a->file_count; i++)
+        if (names_option(argument, a->files[i].name))
+            return take_file(c, &a->files[i], take_value(argv, at));
+    return usage_trouble(c, "unknown option", argument);
 }
 
 static bool looks_like_option(const char *argument)
@@ -176,10 +201,13 @@ int take_arguments(const struct subcommand *c, int argc, char **argv, struct arg
 
 /* ---- input ---- */
 
-/* Where a standard stream is closed, a file must not take its number: it would be read as -. */
-static int open_file(const char *path)
+/*
+ * Where a standard stream is closed, a file must not take its number: it would be
+ * read as -, or get what is printed.
+ */
+static int open_file(const char *path, int flags)
 {
-    int file = open(path, O_RDONLY);
+    int file = open(path, flags, 0666);
     if (file < 0 || file > STDERR_FILENO)
         return file;
     int above = fcntl(file, F_DUPFD, STDERR_FILENO + 1);
@@ -193,7 +221,7 @@ int open_input(struct input *in, const char *path)
         *in = (struct input){"standard input", STDIN_FILENO};
         return STATUS_GOOD;
     }
-    *in = (struct input){path, open_file(path)};
+    *in = (struct input){path, open_file(path, O_RDONLY)};
     return in->file < 0 ? trouble_errno(path) : STATUS_GOOD;
 }
 
@@ -228,11 +256,11 @@ ssize_t read_input(const struct input *in, uint8_t *bytes, size_t length)
     return got;
 }
 
-ssize_t read_log(const struct input *in, uint8_t *log, size_t most)
+ssize_t read_all(const struct input *in, uint8_t *bytes, size_t most)
 {
     size_t length = 0;
     while (length < most) {
-        ssize_t got = read_input(in, log + length, most - length);
+        ssize_t got = read_input(in, bytes + length, most - length);
         if (got < 0)
             return -1;
         if (got == 0)
@@ -260,4 +288,64 @@ int64_t skip_rest(const struct input *in)
 uint32_t four_bytes(const uint8_t *bytes)
 {
     return (uint32_t)bytes[0] << 24 | (uint32_t)bytes[1] << 16 | (uint32_t)bytes[2] << 8 | bytes[3];
+}
+
+/* ---- output files ---- */
+
+bool is_input(const char *output, const char *input)
+{
+    struct stat out, in;
+    int found = strcmp(input, "-") == 0 ? fstat(STDIN_FILENO, &in) : stat(input, &in);
+    return found == 0 && S_ISREG(in.st_mode) && stat(output, &out) == 0 &&
+           out.st_dev == in.st_dev && out.st_ino == in.st_ino;
+}
+
+/* Writes, and closes the file in any case. */
+static bool fill(int file, const uint8_t *bytes, size_t length)
+{
+    bool written = write_all(file, bytes, length);
+    int why = errno;
+    bool closed = close(file) == 0;
+    if (!written)
+        errno = why;
+    return written && closed;
+}
+
+/* A device, a pipe or a link keeps its place: what is behind it is written. */
+static int write_through(const char *path, const uint8_t *bytes, size_t length)
+{
+    int file = open_file(path, O_WRONLY | O_CREAT | O_TRUNC);
+    return file >= 0 && fill(file, bytes, length) ? STATUS_GOOD : trouble_errno(path);
+}
+
+/* By a file beside it, which has the rights of the old one. */
+static int replace(const char *path, const struct stat *old, const uint8_t *bytes, size_t length)
+{
+    enum { NAME_ROOM = 40 };
+    char part[PATH_MAX + NAME_ROOM];
+    const char *slash = strrchr(path, '/');
+    int directory = slash == NULL ? 0 : (int)(slash + 1 - path);
+    snprintf(part, sizeof part, "%.*smcp2515-%ld.part", directory, path, (long)getpid());
+    int file = open_file(part, O_WRONLY | O_CREAT | O_EXCL);
+    if (file < 0)
+        return trouble_errno(errno == EEXIST ? part : path);
+    if (old != NULL)
+        fchmod(file, old->st_mode & 07777);
+    if (fill(file, bytes, length) && rename(part, path) == 0)
+        return STATUS_GOOD;
+    int status = trouble_errno(path);
+    unlink(part);
+    return status;
+}
+
+int write_file(const char *path, const uint8_t *bytes, size_t length)
+{
+    struct stat old;
+    if (lstat(path, &old) != 0)
+        return errno == ENOENT ? replace(path, NULL, bytes, length) : trouble_errno(path);
+    if (!S_ISREG(old.st_mode))
+        return write_through(path, bytes, length);
+    if (access(path, W_OK) != 0)
+        return trouble_errno(path);
+    return replace(path, &old, bytes, length);
 }

@@ -19,6 +19,7 @@ enum {
     STATUS_DIFFERENT = 1,
     STATUS_NONE = 1,
     STATUS_UNSOUND = 1,
+    STATUS_WAITING = 1,
     STATUS_TROUBLE = 2
 };
 
@@ -29,7 +30,8 @@ struct subcommand {
     int (*run)(int argc, char **argv); /* argv[0] is its name; returns the status */
 };
 
-extern const struct subcommand replay_command, chip_command, compare_command, timing_command;
+extern const struct subcommand replay_command, chip_command, compare_command, timing_command,
+    load_command, profile_command;
 
 /* ---- arguments ---- */
 
@@ -44,6 +46,12 @@ struct number_option {
     size_t *number;   /* stays as it was where the option is not given */
 };
 
+/* NAME FILE or NAME=FILE. */
+struct file_option {
+    const char *name;  /* with its dashes */
+    const char **path; /* stays as it was where the option is not given */
+};
+
 enum { MOST_OPERANDS = 5, GO_ON = -1 };
 
 struct arguments {
@@ -51,6 +59,8 @@ struct arguments {
     size_t flag_count;
     const struct number_option *numbers;
     size_t number_count;
+    const struct file_option *files;
+    size_t file_count;
     int most; /* operands allowed */
     const char *operand[MOST_OPERANDS];
     int count;
@@ -103,7 +113,7 @@ ssize_t read_input(const struct input *in, uint8_t *bytes, size_t length);
 enum { MOST_LOG = MCP2515_MOST_RECORDS * MCP2515_RECORD_SIZE };
 
 /* All that comes, at most most bytes; gives the length, -1 for trouble (told). */
-ssize_t read_log(const struct input *in, uint8_t *log, size_t most);
+ssize_t read_all(const struct input *in, uint8_t *bytes, size_t most);
 
 /* How many bytes follow, which are not kept; -1 for trouble (told). */
 int64_t skip_rest(const struct input *in);
@@ -111,7 +121,67 @@ int64_t skip_rest(const struct input *in);
 /* The number that four bytes make, the high one first. */
 uint32_t four_bytes(const uint8_t *bytes);
 
+/* ---- output files ---- */
+
+/* Whether output to a path would change an input, whose path may be "-". */
+bool is_input(const char *output, const char *input);
+
+/*
+ * Makes a file of these bytes, or leaves all as it was: a file that was there is
+ * replaced only when they are written. STATUS_GOOD or STATUS_TROUBLE.
+ */
+int write_file(const char *path, const uint8_t *bytes, size_t length);
+
+/* ---- a chip after a log, and its bytes by name ---- */
+
+struct ran {
+    uint8_t chip[MCP2515_CHIP_SIZE];
+    size_t records;
+    size_t refused;
+};
+
+/* Runs a whole log from power-on. STATUS_GOOD or STATUS_TROUBLE. */
+int run_log(const struct input *in, struct ran *ran);
+
+/* The name of the mode that a chip is in. */
+const char *mode_of(const uint8_t *chip);
+
+/* What SIDH, SIDL, EID8 and EID0 hold. */
+struct identifier {
+    unsigned sid;
+    uint32_t eid;
+    bool extended;
+    uint8_t sidl;
+    uint8_t eid8, eid0;
+};
+
+struct identifier identifier_of(const uint8_t *bytes);
+
+/* The 29 bits of an extended one. */
+uint32_t extended_number(const struct identifier *id);
+
+/* ---- profiles ---- */
+
+/* 34 raw bytes, or text; gives STATUS_GOOD or STATUS_TROUBLE. Raw bytes may have refusal 10. */
+int read_profile(const struct input *in, uint8_t *profile);
+
+/* Names the bytes for which a profile has refusal 10; gives STATUS_TROUBLE. */
+int tell_unwritable(const char *name, const uint8_t *profile);
+
 /* ---- words ---- */
+
+/* Kinds of a record. */
+enum {
+    SELECT_LOW,
+    EXCHANGE,
+    SELECT_HIGH,
+    FRAME,
+    BUS_IDLE,
+    FRAME_ENDS,
+    RECEIVE_ERROR,
+    RECOVERY,
+    REQUEST_PIN
+};
 
 enum { WORDS_ROOM = 100 };
 

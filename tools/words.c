@@ -7,18 +7,6 @@
 #include "mcp2515.h"
 #include "tool.h"
 
-enum {
-    SELECT_LOW,
-    EXCHANGE,
-    SELECT_HIGH,
-    FRAME,
-    BUS_IDLE,
-    FRAME_ENDS,
-    RECEIVE_ERROR,
-    RECOVERY,
-    REQUEST_PIN
-};
-
 static const char *const kinds[] = {
     [SELECT_LOW] = "select low",       [EXCHANGE] = "exchange",
     [SELECT_HIGH] = "select high",     [FRAME] = "frame",

@@ -32,7 +32,7 @@ settled-twice : (c : Control) → settled (settled c) ≡ settled c
 unfolding settled
 settled-twice c = settled-by (c .state .request) c refl
 
-settle-good : (k : Core) → Good (settledCore k)
+pub settle-good : (k : Core) → Good (settledCore k)
 settle-good k = ap (λ (c : Control). withControl k c) (settled-twice (k .control))
 
 pub good-power : Good powerOnCore

@@ -273,14 +273,14 @@ profile-in (TxMessage b) k x e = clash (sym e)
 profile-in (RxCtrl b) k x e = clash (sym e)
 profile-in RxMessage k x e = clash (sym e)
 
-abbrev AtProfile : ℕ → Type 0
+abbrev pub AtProfile : ℕ → Type 0
 AtProfile a = isProfile (regionOf (a % 128)) ≡ true
 
-holds-profile : (k : Core) (a : ℕ) → AtProfile a → holds k a ≡ getD (k .config) (a % 128 % 48) 0
+pub holds-profile : (k : Core) (a : ℕ) → AtProfile a → holds k a ≡ getD (k .config) (a % 128 % 48) 0
 unfolding holds
 holds-profile k a e = profile-in (regionOf (a % 128)) k (a % 128) e
 
-same-profile : (j k : Core) (a : ℕ) → AtProfile a → j .config ≡ k .config → holds j a ≡ holds k a
+pub same-profile : (j k : Core) (a : ℕ) → AtProfile a → j .config ≡ k .config → holds j a ≡ holds k a
 same-profile j k a e h = holds-profile j a e ∙ ap (λ (l : List ℕ). getD l (a % 128 % 48) 0) h ∙ sym (holds-profile k a e)
 
 -- BFPCTRL is the one byte with bits 5 to 0 writable, and lies apart from them

@@ -1,2 +1,3 @@
 pub mod StandIn
 pub mod TimingCalls
+pub mod LoadCalls

@@ -1,6 +1,8 @@
 // The calls of a C program that holds a chip as bytes of its own. The archive of this crate has the calls
 // marked here and no others, so those of bus_log, compare and log_text stand here once more. The calls on bit
 // timing need no chip.
+mod loads;
+
 ghost use mathlib.Core.Path.{_≡_};
 ghost use mathlib.Core.Bool.{true, false};
 ghost use Prim.Native.Nat.{_≤_};
@@ -24,6 +26,7 @@ ghost use Rattle.stand_in.specs.StandIn.{
   heldAnswer,
   zeroOrOne,
 };
+ghost use Rattle.stand_in.specs.LoadCalls.{LoadCall, recordsResult, recordsAfter};
 ghost use Rattle.stand_in.specs.TimingCalls.{
   settingSize,
   settingRefusal,
@@ -270,4 +273,41 @@ pub extern "C" fn mcp2515_plan_timing(oscillator: u32, rate: u32, cnf: &mut [u8]
         }
         Planned::Found(setting, _) => put_setting(cnf, setting),
     }
+}
+
+// Loads a profile, with the bus events that come between the loader's commands: returns 1 for in and 0 for
+// waiting, or changes nothing and returns minus the refusal.
+#[no_mangle]
+pub extern "C" fn mcp2515_load_profile<'a>(
+    chip: &'a mut [u8],
+    profile: &'a [u8],
+    events: &'a [u8],
+) -> i64
+    ensures { λ r. ⌜ LoadCall (now (chip .entry)) (now (profile .entry)) (now (events .entry)) (now (chip .exit)) r ⌝ }
+{
+    let lengths = loads::lengths_refusal(profile.len(), events.len());
+    let refusal = bus_log::held_refusal(chip, lengths);
+    if refusal > 0 {
+        return bus_log::minus(refusal);
+    }
+    loads::load_profile(chip, profile, events)
+}
+
+// The records of that load: stores them and returns how many, or changes nothing and returns minus the refusal.
+#[no_mangle]
+pub extern "C" fn mcp2515_load_records<'a>(
+    chip: &'a [u8],
+    profile: &'a [u8],
+    events: &'a [u8],
+    records: &'a mut [u8],
+) -> i64
+    ensures result { λ r. ⌜ r ≡ recordsResult (now (chip .entry)) (now (profile .entry)) (now (events .entry)) (length (now (records .entry))) ⌝ }
+    ensures buffer { λ _. ⌜ now (records .exit) ≡ recordsAfter (now (chip .entry)) (now (profile .entry)) (now (events .entry)) (now (records .entry)) ⌝ }
+{
+    let lengths = loads::lengths_refusal(profile.len(), events.len());
+    let refusal = bus_log::held_refusal(chip, lengths);
+    if refusal > 0 {
+        return bus_log::minus(refusal);
+    }
+    loads::load_records(chip, profile, events, records)
 }

@@ -1,0 +1,13 @@
+pub mod Under
+pub mod Quiet
+pub mod Reach
+pub mod Sessions
+pub mod Slots
+pub mod Gapped
+pub mod Kept
+pub mod Stages
+pub mod Loads
+pub mod Stays
+pub mod Worked
+pub mod Sizes
+pub mod AllLaws

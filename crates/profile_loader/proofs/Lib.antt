@@ -1,0 +1,9 @@
+pub mod Logs
+pub mod Entries
+pub mod Ahead
+pub mod Sessions
+pub mod Turns
+pub mod Going
+pub mod Walks
+pub mod SliceWalks
+pub mod Stepping
