@@ -167,7 +167,7 @@ event() {
     record "${@:2}"
 }
 came() {
-    echo ", $1 of $2 events came between them"
+    echo ", $1 of $2 entries came between them"
 }
 
 frame='03 00 02 00 00 00 02 00 03 04' # standard 200h

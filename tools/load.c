@@ -185,7 +185,7 @@ static void print_run(const struct load *l)
     }
     printf("mode %s, %zu commands", mode_of(l->after), commands);
     if (l->path[EVENTS] != NULL)
-        printf(", %zu of %zu events came between them", events,
+        printf(", %zu of %zu entries came between them", events,
                l->events_length / MCP2515_EVENT_SIZE);
     putchar('\n');
 }
