@@ -33,9 +33,6 @@ pub record Same (k j : Core) : Type 0 where
   pub receive : (b : RxBuffer) → bitAnd (rxControl (j .control .rx) b) (receiveBits b) ≡ bitAnd (rxControl (k .control .rx) b) (receiveBits b)
   pub canctrl : j .control .flags .canctrl % 32 ≡ k .control .flags .canctrl % 32
 
-pub same-core : (k : Core) → Same k k
-same-core k = record { config = refl; receive = λ b. refl; canctrl = refl }
-
 pub then-same : {k j i : Core} → Same k j → Same j i → Same k i
 then-same p q = record { config = q .config ∙ p .config; receive = λ b. q .receive b ∙ p .receive b; canctrl = q .canctrl ∙ p .canctrl }
 
@@ -112,7 +109,7 @@ pub record Wrote (p : List ℕ) (base : Core) (n : ℕ) (k : Core) : Type 0 wher
   pub canctrl : k .control .flags .canctrl % 32 ≡ base .control .flags .canctrl % 32
 
 module _ (p : List ℕ) (base : Core) where
-  pub wrote-same : (n : ℕ) (k j : Core) → Same k j → Home Configuration (j .control) → Wrote p base n k → Wrote p base n j
+  wrote-same : (n : ℕ) (k j : Core) → Same k j → Home Configuration (j .control) → Wrote p base n k → Wrote p base n j
   wrote-same n k j s h w = record {
     home = h;
     size = ap length (s .config) ∙ w .size;

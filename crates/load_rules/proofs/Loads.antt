@@ -1,6 +1,6 @@
 -- Every load, from its refusals to its verdicts. Assumes nothing.
 use mathlib.Core.Path.{_≡_, refl, sym, subst, ap, _∙_}
-use mathlib.Core.Bool.{Bool, true, false, cond, not, _&&_}
+use mathlib.Core.Bool.{Bool, true, false, cond, not}
 use mathlib.Core.List.{List, [], _∷_, _++_, append-assoc, append-nil}
 use Prim.Native.Nat.{ℕ, zero, suc, _+_, _*_, _/_, _%_, _<_}
 use native.Mathlib.Omega.{arith}
@@ -40,6 +40,7 @@ use Rattle.load_rules.specs.Laws.{writesFrom, readsFrom, commandsOf, rec
 use Rattle.load_rules.proofs.Reach.{Home, Reach, there, waiting, settle-reach, event-reach}
 use Rattle.load_rules.proofs.Sessions.{raised, askCore, ask-chip, read-chip, read-reply}
 use Rattle.load_rules.proofs.Slots.{at-profile, same-registers}
+use Rattle.load_rules.proofs.Stays.{and-left, and-right}
 use Rattle.load_rules.proofs.Gapped.{after-append, gap-pass}
 use Rattle.load_rules.proofs.Kept.{Same, then-same, event-same, settle-same, ask-same, ask-canctrl, ask-there, ask-home, ask-first, Wrote, wrote-event}
 use Rattle.load_rules.proofs.Stages.{at, At, writes, checks}
@@ -288,14 +289,6 @@ module _ (k : Core) (p : List ℕ) (g : ℕ → List (List ℕ)) where
         }
 
 -- ---- the laws
-and-left : (x y : Bool) → x && y ≡ true → x ≡ true
-and-left true y e = refl
-and-left false y e = e
-
-and-right : (x y : Bool) → x && y ≡ true → y ≡ true
-and-right true y e = e
-and-right false y e = clash (sym e)
-
 sound-at : (p : List ℕ) (n i : ℕ) → forBelow n (isWritableAt p) ≡ true → i < n → isWritableAt p i ≡ true
 sound-at p zero i e h = absurd (omega arith)
 sound-at p (suc n) i e h = go (eqb i n) refl (λ l. sound-at p n i (and-left (forBelow n (isWritableAt p)) (isWritableAt p n) e) l)

@@ -43,7 +43,7 @@ pub record At (st : Stage) (Q : Core → Type 0) (rs : List (List ℕ)) (s : Pro
   pub is : s ≡ at st core rs
   pub good : Q core
 
-pub settle-core : {m : Mode} (k : Core) → Home m (k .control) → settledCore k ≡ k
+settle-core : {m : Mode} (k : Core) → Home m (k .control) → settledCore k ≡ k
 settle-core k h = ap (withControl k) (settle-none (k .control) (h .request))
 
 -- in Configuration nothing is hidden

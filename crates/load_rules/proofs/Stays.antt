@@ -90,11 +90,11 @@ not-true : (x : Bool) → not x ≡ true → x ≡ false
 not-true true e = clash (sym e)
 not-true false e = refl
 
-and-left : (x y : Bool) → x && y ≡ true → x ≡ true
+pub and-left : (x y : Bool) → x && y ≡ true → x ≡ true
 and-left true y e = refl
 and-left false y e = e
 
-and-right : (x y : Bool) → x && y ≡ true → y ≡ true
+pub and-right : (x y : Bool) → x && y ≡ true → y ≡ true
 and-right true y e = e
 and-right false y e = clash (sym e)
 

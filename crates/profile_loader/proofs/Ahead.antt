@@ -10,9 +10,10 @@ use Rattle.records.specs.Records.{kindOf, isEvent}
 use Rattle.mcp2515.specs.Step.{chipAfter}
 use Rattle.mcp2515.proofs.CoreKept.{either}
 use Rattle.load_rules.specs.Load.{eventsIn}
+use Rattle.load_rules.proofs.Gapped.{after-append}
 use Rattle.profile_loader.specs.declared.Gap.{Gap}
 use Rattle.profile_loader.specs.Gaps.{entrySize, due, notDue, goesBy, logOf, startAt, timedOf, entriesLeft, Came, GapRun}
-use Rattle.profile_loader.proofs.Logs.{chip-append, Sized, sized-none, sized-cons, put-append}
+use Rattle.profile_loader.proofs.Logs.{Sized, sized-none, sized-cons, put-append}
 use Rattle.profile_loader.proofs.Entries.{left-next, gone-by, held-up}
 
 -- from y on as from x on
@@ -49,7 +50,7 @@ one-further x y z events n room mid after r more fits by is w less h =
     let whole : length r ≡ 16 = ap length is ∙ length-take-le 16 (drop 4 (drop (startAt events (y .left)) events)) (rw (length-drop, length-drop) (omega arith)) in
     let count = ap length d ∙ length-append one rest in
     record {
-      chip = rw (w .chip, ← chip-append (y .chip) one rest, ← d) (h .chip);
+      chip = rw (w .chip, ← after-append (y .chip) one rest, ← d) (h .chip);
       sent = omega (arith, w .sent, h .sent);
       records = rw (w .records, w .sent, put-append mid (y .sent) one rest (one-sized r whole), ← d) (h .records);
       left = sym (rw next (ahead .1)) ∙ h .left;

@@ -1,31 +1,17 @@
--- Records one after the other: the chip after them, and their bytes in a room. Assumes nothing.
+-- Records one after the other, and their bytes in a room. Assumes nothing.
 use mathlib.Core.Path.{_≡_, refl, sym, _∙_}
 use mathlib.Core.List.{List, [], _∷_, _++_, append-assoc}
-use Prim.Native.Nat.{ℕ, suc, _+_, _*_}
-use native.Mathlib.Nat.{add-zero}
+use Prim.Native.Nat.{ℕ, _+_, _*_}
 use native.Mathlib.Omega.{arith}
-use lib.ListN.{length, set, length-append}
+use lib.ListN.{length, length-append}
 use lib.Seq.{sets}
-use Rattle.mcp2515.specs.declared.Chip.{Chip}
-use Rattle.mcp2515.specs.Step.{nextChip, chipAfter}
+use Rattle.bus_log.proofs.Copy.{sets-append}
 use Rattle.profile_loader.specs.Gaps.{logOf}
 
-pub chip-append : (c : Chip) (a b : List (List ℕ)) → chipAfter c (a ++ b) ≡ chipAfter (chipAfter c a) b
-unfolding chipAfter
-chip-append c [] b = refl
-chip-append c (r ∷ a) b = chip-append (nextChip c r) a b
-
-pub log-append : (a b : List (List ℕ)) → logOf (a ++ b) ≡ logOf a ++ logOf b
+log-append : (a b : List (List ℕ)) → logOf (a ++ b) ≡ logOf a ++ logOf b
 unfolding logOf
 log-append [] b = refl
 log-append (r ∷ a) b = rw (log-append a b) (sym (append-assoc r (logOf a) (logOf b)))
-
--- bytes are stored, and others behind them
-pub sets-append : (u v l : List ℕ) (at : ℕ) → sets (sets l at u) (at + length u) v ≡ sets l at (u ++ v)
-sets-append [] v l at = rw add-zero
-sets-append (x ∷ u) v l at =
-    let next : at + suc (length u) ≡ suc at + length u = omega arith in
-    rw next (sets-append u v (set l at x) (suc at))
 
 -- ---- records of 16 bytes
 pub put-next : (room r : List ℕ) (at : ℕ) (rs : List (List ℕ)) → length r ≡ 16 → sets (sets room at r) (at + 16) (logOf rs) ≡ sets room at (logOf (r ∷ rs))
