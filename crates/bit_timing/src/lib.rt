@@ -1,5 +1,7 @@
 // Bit timing: which CNF1 to CNF3 are sound, how far they are off a bit rate, and the best ones for an
 // oscillator. It knows nothing of the chip.
+#![tactic(auto)]
+
 mod pairs;
 
 ghost use Rattle.std.specs.Prelude.{◌≡◌, cond, ◌≤◌, ◌<◌};
@@ -22,14 +24,14 @@ ghost use Rattle.bit_timing.specs.Timing.{
 ghost use Rattle.bit_timing.specs.Pairs.{clock_limit};
 
 // The three registers, as a WRITE would store them.
-#[derive(Drop)]
+#[derive(Clone, Copy)]
 pub struct Setting {
     pub cnf1: u8,
     pub cnf2: u8,
     pub cnf3: u8,
 }
 
-#[derive(Drop)]
+#[derive(Clone, Copy)]
 pub enum Planned {
     // Oscillator or rate is out of range: the refusal.
     Refused(u8),

@@ -1,4 +1,6 @@
 // One byte: its bits, and the changes that a register takes.
+#![tactic(auto)]
+
 ghost use Rattle.std.specs.Prelude.{◌≡◌, cond};
 ghost use Rattle.bits.specs.Bit.{has_bit, power_of, set_bit, merged, written};
 

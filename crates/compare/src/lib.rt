@@ -1,4 +1,6 @@
 // Two logs side by side: the records in which they differ, and what one has past the end of the other.
+#![tactic(auto)]
+
 ghost use Rattle.std.specs.Prelude.{◌≡◌, true, cond, ◌+◌, ◌*◌, ◌/◌, ◌%◌, ◌^◌, ◌≤◌, ◌<◌, ltb, length, take, drop};
 ghost use Rattle.std.proofs.lemmas.List.Edits.{sets};
 ghost use Rattle.image.specs.Image.{is_chip};
@@ -249,7 +251,7 @@ fn lacks_room<'a>(
 }
 
 // The refusal, 0 for none, and the number of entries.
-#[derive(Drop)]
+#[derive(Clone, Copy)]
 struct Compared {
     refusal: u8,
     found: usize,

@@ -1,4 +1,6 @@
 // The chip as bytes at fixed places. A caller lends them, and the rules change them where they lie.
+#![tactic(auto)]
+
 mod addresses;
 mod control;
 

@@ -1,5 +1,7 @@
 // The loader of a profile as a machine by value: which command comes next, and what it says in the end. It
 // knows no chip.
+#![tactic(auto)]
+
 ghost use Rattle.std.specs.Prelude.{◌≡◌, get_or, [], ◌∷◌, ◌*◌};
 ghost use Rattle.load_machine.specs.Profile.{
   address_of,
@@ -37,7 +39,7 @@ pub const REFUSED_PROFILE: u8 = 10;
 // The mode at the start is not Normal, Listen-Only or Configuration.
 pub const REFUSED_MODE: u8 = 11;
 
-#[derive(Drop)]
+#[derive(Clone, Copy)]
 pub enum Verdict {
     // Nothing was sent: the refusal.
     Refused(u8),
@@ -49,7 +51,7 @@ pub enum Verdict {
     Differs,
 }
 
-#[derive(Drop)]
+#[derive(Clone, Copy)]
 pub enum Stage {
     Asking,
     Looking,
@@ -62,7 +64,7 @@ pub enum Stage {
     Ended(Verdict),
 }
 
-#[derive(Drop)]
+#[derive(Clone, Copy)]
 pub enum Command {
     // Asks for a mode.
     Ask(Mode),
@@ -72,7 +74,7 @@ pub enum Command {
     Write(u8, u8),
 }
 
-#[derive(Drop)]
+#[derive(Clone, Copy)]
 pub enum Turn {
     Send(Command),
     Say(Verdict),

@@ -1,4 +1,6 @@
 // The text of a replay: a line for each record of the log, rendered a stretch at a time.
+#![tactic(auto)]
+
 ghost use Rattle.std.specs.Prelude.{◌≡◌, [], ◌∷◌, ◌+◌, ◌*◌, ◌≤◌, ◌<◌, ◌^◌, length};
 ghost use Rattle.image.specs.Image.{image_size};
 ghost use Rattle.mcp2515.specs.ChipImage.{chip_of, Moved};
@@ -30,7 +32,7 @@ const LINE_ROOM: usize = 23;
 
 // What a stretch leaves: 0 where the run goes on, else the refusal that ended it, or 7 for an output
 // that is too short; the bytes of text; the records run so far and the chip that they left.
-#[derive(Drop)]
+#[derive(Clone, Copy)]
 pub struct Rendered {
     pub refusal: u8,
     pub len: usize,

@@ -1,11 +1,13 @@
 // The chip as its SPI master and its bus see it: one record in, one step.
+#![tactic(auto)]
+
 mod packing;
 mod steps;
 
 pub use packing::{pack, unpack};
 pub use steps::{hold, int_is_low, power_on, read, step, step_in_place};
 
-#[derive(Drop)]
+#[derive(Clone, Copy)]
 pub struct Chip {
     pub core: registers::Core,
     pub select: spi::Select,
@@ -13,7 +15,7 @@ pub struct Chip {
 
 // A step by value: the refusal (0 for none), the answer, the filters that match the record's frame (bit n for filter n), and the chip
 // after it.
-#[derive(Drop)]
+#[derive(Clone, Copy)]
 pub struct Stepped {
     pub chip: Chip,
     pub refusal: u8,

@@ -1,4 +1,6 @@
 // A record of 16 bytes taken apart: its kind, its fields, and whether refusal 2 names it.
+#![tactic(auto)]
+
 ghost use Rattle.std.specs.Prelude.{◌≡◌, [], ◌∷◌, ◌+◌, ◌*◌, ◌/◌, ◌%◌, ◌<◌, ◌^◌, ◌-◌};
 ghost use Rattle.records.specs.Records.{
   refused_outcome,
@@ -17,7 +19,7 @@ ghost use Rattle.records.specs.Records.{
   record_of,
 };
 
-#[derive(Drop)]
+#[derive(Clone, Copy)]
 pub enum Kind {
     SelectLow,
     Exchange,
@@ -32,7 +34,7 @@ pub enum Kind {
 }
 
 // A frame on the bus; `code` is its data length code. Of `bytes` only the first bytes count, as many as it carries.
-#[derive(Drop)]
+#[derive(Clone, Copy)]
 pub struct Frame {
     pub extended: bool,
     pub remote: bool,
@@ -42,7 +44,7 @@ pub struct Frame {
 }
 
 // A record taken apart. The data bytes are one number, low byte first.
-#[derive(Drop)]
+#[derive(Clone, Copy)]
 pub struct Fields {
     pub kind: u8,
     pub field: u8,
@@ -53,7 +55,7 @@ pub struct Fields {
 }
 
 // What a step tells of a record: its refusal, 0 for none, its answer, and the filters that match its frame, bit n for filter n.
-#[derive(Drop)]
+#[derive(Clone, Copy)]
 pub struct Outcome {
     pub refusal: u8,
     pub answer: u8,

@@ -1,4 +1,6 @@
 // The registers and the state of the CAN side: the address map, modes and error counters.
+#![tactic(auto)]
+
 mod errors;
 mod map;
 mod modes;
@@ -76,7 +78,7 @@ pub const RX0OVR: u8 = 64;
 
 pub const RX1OVR: u8 = 128;
 
-#[derive(Drop)]
+#[derive(Clone, Copy)]
 pub enum Mode {
     Normal,
     Sleep,
@@ -85,34 +87,34 @@ pub enum Mode {
     Configuration,
 }
 
-#[derive(Drop)]
+#[derive(Clone, Copy)]
 pub enum TxBuffer {
     Txb0,
     Txb1,
     Txb2,
 }
 
-#[derive(Drop)]
+#[derive(Clone, Copy)]
 pub enum RxBuffer {
     Rxb0,
     Rxb1,
 }
 
 // The own frame on the bus.
-#[derive(Drop)]
+#[derive(Clone, Copy)]
 pub enum Flight {
     Idle,
     Of(TxBuffer),
 }
 
 // The mode asked for and not yet entered.
-#[derive(Drop)]
+#[derive(Clone, Copy)]
 pub enum Request {
     Nothing,
     Wanted(Mode),
 }
 
-#[derive(Drop)]
+#[derive(Clone, Copy)]
 pub struct State {
     pub mode: Mode,
     pub flight: Flight,
@@ -120,7 +122,7 @@ pub struct State {
 }
 
 // EFLG keeps its two overflow bits here; the others follow from the counters.
-#[derive(Drop)]
+#[derive(Clone, Copy)]
 pub struct Flags {
     pub canctrl: u8,
     pub caninte: u8,
@@ -129,7 +131,7 @@ pub struct Flags {
 }
 
 // TXBnCTRL.
-#[derive(Drop)]
+#[derive(Clone, Copy)]
 pub struct TxControl {
     pub txb0: u8,
     pub txb1: u8,
@@ -137,20 +139,20 @@ pub struct TxControl {
 }
 
 // RXBnCTRL.
-#[derive(Drop)]
+#[derive(Clone, Copy)]
 pub struct RxControl {
     pub rxb0: u8,
     pub rxb1: u8,
 }
 
-#[derive(Drop)]
+#[derive(Clone, Copy)]
 pub struct Counters {
     pub tec: u16,
     pub rec: u8,
 }
 
 // Everything that acts: apart from the bytes below, so that a bus event is seen to leave those alone.
-#[derive(Drop)]
+#[derive(Clone, Copy)]
 pub struct Control {
     pub flags: Flags,
     pub tx: TxControl,
@@ -160,7 +162,7 @@ pub struct Control {
 }
 
 // The levels of the pins TX0RTS to TX2RTS: true is high.
-#[derive(Drop)]
+#[derive(Clone, Copy)]
 pub struct Pins {
     pub tx0rts: bool,
     pub tx1rts: bool,
@@ -169,7 +171,7 @@ pub struct Pins {
 
 // The bytes of 00h to 2Fh (filters, masks, CNF, BFPCTRL, TXRTSCTRL), 30h to 5Fh (messages to send) and 60h to 7Fh (messages received),
 // beside what acts and the pins.
-#[derive(Drop)]
+#[derive(Clone, Copy)]
 pub struct Core {
     pub config: [u8; 48],
     pub tx: [u8; 48],
@@ -179,7 +181,7 @@ pub struct Core {
 }
 
 // What lies at an address. Configured: CNF1-3, which like TXRTSCTRL take writes in the same mode as filters and masks but always read.
-#[derive(Drop)]
+#[derive(Clone, Copy)]
 pub enum Region {
     Filters,
     Masks,

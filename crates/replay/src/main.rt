@@ -1,5 +1,7 @@
 // Replays a recorded log, from standard input or from a file, and prints a line for each record as
 // soon as the record is there.
+#![tactic(auto)]
+
 ghost use Rattle.std.specs.Prelude.{◌≡◌, ◌+◌, ◌*◌, ◌≤◌, length};
 ghost use Rattle.bus_log.specs.Log.{record_size};
 
@@ -15,7 +17,7 @@ const MOST_READS: usize = (MAX_RECORDS + 1) * RECORD_SIZE + 1;
 
 // The records run so far, the chip that they left, the bytes of a record that is not whole yet, and
 // whether to go on.
-#[derive(Drop)]
+#[derive(Clone, Copy)]
 struct Progress {
     chip: Chip,
     number: u32,

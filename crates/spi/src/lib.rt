@@ -1,4 +1,6 @@
 // The SPI side as an automaton: a byte and the open instruction give the next open instruction and one act on the core.
+#![tactic(auto)]
+
 mod codes;
 mod exchanges;
 mod lines;
@@ -9,14 +11,14 @@ pub use exchanges::{close, exchange, open};
 pub use lines::{put_select, select_of};
 
 // Who drives the SPI lines.
-#[derive(Drop)]
+#[derive(Clone, Copy)]
 pub enum Speaker {
     Controller,
     Panel,
 }
 
 // What the next exchange is for.
-#[derive(Drop)]
+#[derive(Clone, Copy)]
 pub enum Instruction {
     First,
     ReadAddress,
@@ -33,7 +35,7 @@ pub enum Instruction {
 }
 
 // An instruction by its first byte; the two buffer instructions with their first address.
-#[derive(Drop)]
+#[derive(Clone, Copy)]
 pub enum Command {
     Reset,
     Read,
@@ -48,7 +50,7 @@ pub enum Command {
 }
 
 // What a record of the SPI side asks of the core.
-#[derive(Drop)]
+#[derive(Clone, Copy)]
 pub enum Act {
     Rest,
     ResetAll,
@@ -63,7 +65,7 @@ pub enum Act {
 }
 
 // The select line, and while it is low who selected and the open instruction.
-#[derive(Drop)]
+#[derive(Clone, Copy)]
 pub enum Select {
     Raised,
     Lowered(Speaker, Instruction),

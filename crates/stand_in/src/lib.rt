@@ -1,6 +1,8 @@
 // The calls of a C program that holds a chip as bytes of its own. The archive of this crate has the calls
 // marked here and no others, so those of bus_log, compare and log_text stand here once more. The calls on bit
 // timing need no chip.
+#![tactic(auto)]
+
 mod loads;
 
 ghost use Rattle.std.specs.Prelude.{◌≡◌, true, false, ◌≤◌, length, pos};

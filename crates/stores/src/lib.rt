@@ -1,4 +1,6 @@
 // A store of one byte, with the rules of its address; BIT MODIFY and RTS.
+#![tactic(auto)]
+
 mod bytes;
 mod control;
 
