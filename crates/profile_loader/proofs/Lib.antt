@@ -4,6 +4,4 @@ pub mod Ahead
 pub mod Sessions
 pub mod Turns
 pub mod Going
-pub mod Walks
-pub mod SliceWalks
 pub mod Stepping

@@ -29,7 +29,7 @@ pub fn event_in_place(chip: &mut Chip, record: [u8; RECORD_SIZE]) -> u8
 
 // A profile, with bus events between its commands.
 pub fn load_in_place(chip: &mut Chip, profile: [u8; PROFILE_SIZE], events: &[u8]) -> Verdict
-    ensures { LoadedFrom chip.entry.now profile events.now (record { chip = chip.exit.now; verdict = result }) }
+    ensures { LoadedFrom chip.old profile events.now (record { chip = chip.new; verdict = result }) }
 {
     let loaded = load(*chip, profile, events);
     *chip = loaded.chip;

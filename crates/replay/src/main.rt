@@ -2,12 +2,16 @@
 // soon as the record is there.
 #![tactic(auto)]
 
-ghost use Rattle.std.specs.Prelude.{◌≡◌, ◌+◌, ◌*◌, ◌≤◌, length};
+ghost use Rattle.std.specs.Prelude.{◌≡◌, ◌+◌, ◌*◌, ◌≤◌, length, IfOk};
 ghost use Rattle.bus_log.specs.Log.{record_size};
 
+use anyhow::{Context, Result};
 use bus_log::{MAX_RECORDS, RECORD_SIZE};
-use libc::{STDERR_FILENO, STDIN_FILENO, STDOUT_FILENO};
 use mcp2515::Chip;
+use std::fs::File;
+use std::io;
+use std::io::{Read, Write};
+use std::process::ExitCode;
 
 // The most bytes that are read at once. The text of so many records fits the output buffer.
 const STRETCH: usize = 2048 * RECORD_SIZE;
@@ -32,30 +36,29 @@ fn stretch_buffer() -> [u8; STRETCH]
 }
 
 // Renders a part of the log and writes its text at once.
-fn replay_part(progress: Progress, part: &[u8], output: &mut [u8]) -> Progress {
-    let chip = progress.chip;
-    let rendered = log_text::render_stretch(chip, progress.number, part, output);
+fn replay_part<W: Write>(
+    progress: Progress,
+    part: &[u8],
+    text: &mut [u8],
+    output: &mut W,
+) -> Result<Progress> {
+    let rendered = log_text::render_stretch(progress.chip, progress.number, part, text);
     let len = rendered.len;
-    let mut written = false;
-    if len <= output.len() {
-        written = io::write_all(STDOUT_FILENO, &output[..len]);
+    let fits = len <= text.len();
+    if fits {
+        output.write_all(&text[..len]).context("standard output")?;
     }
-    if !written {
-        os::fail(b"standard output");
-    }
-    let next = rendered.chip;
-    Progress {
-        chip: next,
+    Ok(Progress {
+        chip: rendered.chip,
         number: rendered.number,
         kept: 0,
-        more: written & (rendered.refusal == 0),
-    }
+        more: fits & (rendered.refusal == 0),
+    })
 }
 
 fn stopped(progress: Progress) -> Progress {
-    let chip = progress.chip;
     Progress {
-        chip,
+        chip: progress.chip,
         number: progress.number,
         kept: 0,
         more: false,
@@ -66,164 +69,143 @@ fn stopped(progress: Progress) -> Progress {
 fn keep(input: &mut [u8], from: usize, size: usize)
     requires { from + size ≤ length input.old }
 {
-    let mut i = 0;
-    while i < size {
-        input[i] = input[from + i];
-        i += 1;
-    }
+    input.copy_within(from..from + size, 0);
 }
 
 // Renders the records that are whole in the first size bytes, and keeps the rest.
-fn replay_whole(progress: Progress, input: &mut [u8], size: usize, output: &mut [u8]) -> Progress
+fn replay_whole<W: Write>(
+    progress: Progress,
+    input: &mut [u8],
+    size: usize,
+    text: &mut [u8],
+    output: &mut W,
+) -> Result<Progress>
     requires { size ≤ length input.old }
 {
     let left = size % RECORD_SIZE;
     let whole = size - left;
-    let next = replay_part(progress, &input[..whole], output);
+    let next = replay_part(progress, &input[..whole], text, output)?;
     keep(input, whole, left);
-    let chip = next.chip;
-    Progress {
-        chip,
+    Ok(Progress {
+        chip: next.chip,
         number: next.number,
         kept: left,
         more: next.more,
-    }
+    })
 }
 
-fn read_behind(fd: i32, input: &mut [u8], kept: usize) -> isize
+fn read_behind<R: Read>(log: &mut R, input: &mut [u8], kept: usize) -> io::Result<usize>
     requires { kept ≤ length input.old }
+    ensures { IfOk result (λ n. kept + n ≤ length input.new) }
 {
-    libc::read(fd, &mut input[kept..])
+    log.read(&mut input[kept..])
 }
 
 // Reads once, behind the bytes that are kept. Where the log ends there, they are a short record.
-fn replay_read(fd: i32, progress: Progress, input: &mut [u8], output: &mut [u8]) -> Progress {
+fn replay_read<R: Read, W: Write>(
+    log: &mut R,
+    progress: Progress,
+    input: &mut [u8],
+    text: &mut [u8],
+    output: &mut W,
+) -> Result<Progress> {
     let kept = progress.kept;
     if kept >= input.len() {
-        return stopped(progress);
+        return Ok(stopped(progress));
     }
-    let got = read_behind(fd, input, kept);
-    if got < 0 {
-        os::fail(b"reading the log");
-        return stopped(progress);
-    }
+    let got = read_behind(log, input, kept).context("reading the log")?;
     if got == 0 {
-        return stopped(replay_part(progress, &input[..kept], output));
+        let last = replay_part(progress, &input[..kept], text, output)?;
+        return Ok(stopped(last));
     }
-    let size = kept + io::count(got, &input[kept..]);
-    replay_whole(progress, input, size, output)
+    replay_whole(progress, input, kept + got, text, output)
 }
 
-fn replay_log(fd: i32) {
+fn replay_log<R: Read, W: Write>(log: &mut R, output: &mut W) -> Result<()> {
     let mut input = stretch_buffer();
-    let mut output = io::large_buffer();
+    let mut text = [0u8; 65536];
     let mut progress = Progress {
         chip: mcp2515::power_on(),
         number: 0,
         kept: 0,
         more: true,
     };
-    let mut reads = MOST_READS;
-    while reads > 0 && progress.more {
-        progress = replay_read(fd, progress, &mut input, &mut output);
-        reads -= 1;
+    for _ in 0..MOST_READS {
+        if !progress.more {
+            break;
+        }
+        progress = replay_read(log, progress, &mut input, &mut text, output)?;
     }
+    Ok(())
 }
 
 // Opens the file and tries to read nothing, which a directory refuses.
-fn open_log(path: &[u8]) -> i32 {
-    let fd = os::open_read(path);
-    if fd < 0 {
-        return fd;
-    }
-    let mut nothing = [0u8; 0];
-    if libc::read(fd, &mut nothing) < 0 {
-        return -1;
-    }
-    fd
+fn open_log(rt: &HostRuntime, name: &str) -> io::Result<File> {
+    let mut file = File::open(rt, name)?;
+    file.read(&mut [0u8; 0])?;
+    Ok(file)
 }
 
-fn replay_file(path: &[u8]) {
-    let fd = open_log(path);
-    if fd < 0 {
-        os::fail(path);
-        return;
-    }
-    replay_log(fd);
-    libc::close(fd);
+const USAGE: &str = "usage: replay [--help] [--] [LOG]";
+
+fn show_help(rt: &HostRuntime) -> Result<()> {
+    println!(rt; "{USAGE}").context("standard output")?;
+    println!(rt;
+        "Replays LOG, or standard input where LOG is missing or -, from power-on."
+    ).context("standard output")?;
+    println!(rt; "Prints a line for each record: its number from 1, refusal, answer.").context(
+        "standard output",
+    )
 }
 
-fn show_usage(fd: i32) {
-    io::write_all(fd, b"usage: replay [--help] [--] [LOG]\n");
-}
-
-fn show_help() {
-    show_usage(STDOUT_FILENO);
-    io::write_all(
-        STDOUT_FILENO,
-        b"Replays LOG, or standard input where LOG is missing or -, from power-on.\n",
-    );
-    io::write_all(
-        STDOUT_FILENO,
-        b"Prints a line for each record: its number from 1, refusal, answer.\n",
-    );
+fn show_usage(rt: &HostRuntime) -> Result<()> {
+    eprintln!(rt; "{USAGE}").context("standard error")
 }
 
 // A dash alone is standard input.
-fn replay_named(word: &[u8]) {
-    if check::same(word, b"-") {
-        replay_log(STDIN_FILENO);
-    } else {
-        replay_file(word);
+fn replay_named(rt: &HostRuntime, name: &str) -> Result<()> {
+    if name == "-" {
+        return replay_log(&mut rt.stdin(), &mut rt.stdout());
     }
+    let mut file = open_log(rt, name).context(format_args!("{name}"))?;
+    replay_log(&mut file, &mut rt.stdout())
 }
 
-// What follows the two dashes that end the options.
-fn replay_operand(words: usize) {
-    if words == 2 {
-        replay_log(STDIN_FILENO);
-        return;
-    }
-    if words > 3 {
-        show_usage(STDERR_FILENO);
-        return;
-    }
-    let mut word = io::buffer();
-    let size = os::arg(2, &mut word);
-    if os::errno() != 0 {
-        os::fail(b"argument");
-        return;
-    }
-    replay_named(&word[..size]);
+fn is_option(word: &str) -> bool {
+    word.len() > 1 && word.as_bytes()[0] == b'-'
 }
 
-fn is_option(word: &[u8]) -> bool {
-    word.len() > 1 && word[0] == b'-'
+fn run(rt: &HostRuntime) -> Result<()> {
+    let mut words = std::env::args(rt).context("argument")?;
+    let _program = words.next();
+    let Some(first) = words.next() else {
+        return replay_named(rt, "-");
+    };
+    let second = words.next();
+    let third = words.next();
+    if first.as_str() == "--help" {
+        return show_help(rt);
+    }
+    if first.as_str() == "--" {
+        // What follows the two dashes that end the options.
+        return match (&second, &third) {
+            (None, _) => replay_named(rt, "-"),
+            (Some(name), None) => replay_named(rt, name.as_str()),
+            _ => show_usage(rt),
+        };
+    }
+    if is_option(first.as_str()) || second.is_some() {
+        return show_usage(rt);
+    }
+    replay_named(rt, first.as_str())
 }
 
-fn replay_by(first: &[u8], words: usize) {
-    if check::same(first, b"--help") {
-        show_help();
-    } else if check::same(first, b"--") {
-        replay_operand(words);
-    } else if is_option(first) | (words > 2) {
-        show_usage(STDERR_FILENO);
-    } else {
-        replay_named(first);
+fn main(rt: HostRuntime) -> ExitCode {
+    match run(&rt) {
+        Ok(()) => ExitCode::SUCCESS,
+        Err(error) => {
+            let _ = eprintln!(rt; "{error:#}");
+            ExitCode::FAILURE
+        }
     }
-}
-
-fn main() {
-    let words = os::arg_count();
-    if words < 2 {
-        replay_log(STDIN_FILENO);
-        return;
-    }
-    let mut first = io::buffer();
-    let size = os::arg(1, &mut first);
-    if os::errno() != 0 {
-        os::fail(b"argument");
-        return;
-    }
-    replay_by(&first[..size], words);
 }
