@@ -4,14 +4,10 @@ use native.Mathlib.Nat.{div-one}
 use native.Mathlib.Omega.{arith}
 use Rattle.records.specs.Records.{record_of}
 use Rattle.records.proofs.Taken.{zero_four, zero_bytes}
-use Rattle.records.proofs.tail_zero.Statement.{statement}
-use Rattle.records.proofs.tail_zero.Tie as tie
+use Rattle.records.proofs.tail_zero.Goals as goal
 
-returns : tie.Need-returns
+pub returns : goal.returns
 unfolding record_of
 returns c =
-    let f : Fields = c.before.before.before.args.fields in
+    let f : Fields = c.args.fields in
     simp (zero_four f.identifier (omega arith), zero_bytes f.«data» 8 (omega arith), div-one, and_assoc)
-
-pub tail-zero-spec : {M : Type 1} → statement M
-tail-zero-spec = tie.close (tie.spec returns)
