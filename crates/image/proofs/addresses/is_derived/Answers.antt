@@ -5,12 +5,8 @@ use Rattle.bits.proofs.All.{every}
 use Rattle.registers.specs.Registers.{region_of}
 use Rattle.image.specs.Image.{is_derived}
 use Rattle.image.proofs.Places.{same_bool, same_bool_lem}
-use Rattle.image.proofs.addresses.is_derived.Statement.{statement}
-use Rattle.image.proofs.addresses.is_derived.Tie as tie
+use Rattle.image.proofs.addresses.is_derived.Goals as goal
 
-returns : tie.Need-returns
+pub returns : goal.returns
 unfolding region_of
 returns c = same_bool_lem _ _ (every (λ a. same_bool (eqb (a % 16) 14 || eqb a 0x2D || eqb a 0x1C || eqb a 0x0D) (is_derived (region_of a))) 128 tt c.args.at c.requires)
-
-pub is-derived-spec : {M : Type 1} → statement M
-is-derived-spec = tie.close (tie.spec returns)
