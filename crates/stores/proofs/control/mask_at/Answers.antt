@@ -1,17 +1,12 @@
--- The table against the register rule: one test over the 128 entries, and the rule at each of them by a law of tables.
 use mathlib.Core.List.{List, [], ◌∷◌}
 use mathlib.Core.Bool.{Bool}
 use Prim.Native.Nat.{ℕ}
 use lib.Dec.{eqb, eqb→eq}
 use lib.ListN.{get_or}
-use borrow.Author.Rules.{rules}
 use Rattle.bits.proofs.Table.{entry}
 use Rattle.registers.specs.Registers.{region_of, writable_of}
-use Rattle.stores.proofs.control.mask_at.Statement.{statement}
-use Rattle.stores.proofs.control.mask_at.Tie as tie
-
-array-read-result : tie.Need-array-read-result
-array-read-result c = search rules
+use borrow.Author.Rules.{rules}
+use Rattle.stores.proofs.control.mask_at.Goals as goal
 
 masks : List ℕ
 masks =
@@ -27,9 +22,6 @@ masks =
 right : ℕ → ℕ → Bool
 right a m = eqb m (writable_of a)
 
-returns : tie.Need-returns
+pub returns : goal.returns
 unfolding masks right region_of writable_of
 returns c = eqb→eq (get_or masks c.args.at 0) (writable_of c.args.at) (entry right masks tt c.args.at (search rules))
-
-pub mask-at-spec : {M : Type 1} → statement M
-mask-at-spec = tie.close (tie.spec array-read-result returns)
