@@ -1,0 +1,14 @@
+use mathlib.Core.Path.{◌≡◌, refl, sym, ◌∙◌}
+use Prim.Native.Nat.{◌≤◌, ◌-◌}
+use native.Mathlib.Omega.{arith}
+use Rattle.receiving.specs.Receiving.{lowest_from}
+use Rattle.receiving.specs.Words.{word_matches}
+use Rattle.receiving.proofs.Look.{skipped, found, ended}
+use Rattle.receiving.proofs.filters.lowest.Given as goal
+
+abbrev pub invariant-loop-filter : goal.invariant-loop-filter
+invariant-loop-filter l =
+    (l.filter ≤ l.end) × (lowest_from (word_matches l.image l.key) l.first (l.end - l.first) ≡ lowest_from (word_matches l.image l.key) l.filter (l.end - l.filter))
+
+abbrev pub decreases-loop-filter : goal.decreases-loop-filter
+decreases-loop-filter l = l.end - l.filter
