@@ -1,0 +1,5 @@
+use Rattle.spi.proofs.Turns.{lined, address_set, turned_by_lem}
+use Rattle.spi.proofs.exchanges.fetch.Goals as goal
+
+pub returns : goal.returns
+returns c = record { value = c.read-reply.ensures.image c.requires; turned = simp c.rise.ensures (turned_by_lem (address_set (lined c.args.image.now c.requires) _)) }

@@ -1,0 +1,7 @@
+use Rattle.spi.specs.Open.{instruction_by}
+use Rattle.spi.proofs.Turns.{then_turned}
+use Rattle.spi.proofs.exchanges.request.Goals as goal
+
+pub returns : goal.returns
+unfolding instruction_by
+returns c = record { value = c.turn.ensures.value; turned = then_turned (c.request_to_send.ensures.image c.requires) c.turn.ensures.turned }
