@@ -1,0 +1,13 @@
+use native.Mathlib.Omega.{arith}
+use mathlib.Core.Path.{◌≡◌, refl, sym, ◌∙◌}
+use Prim.Native.Nat.{◌-◌, ◌≤◌}
+use lib.ListN.{length, take, drop, length-set}
+use lib.Seq.{take_all}
+use Rattle.mcp2515.proofs.Images.{one_more}
+use Rattle.mcp2515.proofs.packing.row_bytes.Given as goal
+
+abbrev pub invariant-loop-i : goal.invariant-loop-i
+invariant-loop-i l = (l.i ≤ 48) × (length l.bytes ≡ 48) × (take l.i l.bytes ≡ take l.i (drop l.at l.image))
+
+abbrev pub decreases-loop-i : goal.decreases-loop-i
+decreases-loop-i l = 48 - l.i
