@@ -1,0 +1,14 @@
+use mathlib.Core.Path.{◌≡◌, refl, sym, ◌∙◌}
+use Prim.Native.Nat.{◌-◌, ◌≤◌}
+use native.Mathlib.Omega.{arith}
+use lib.ListN.{length, take, length-set}
+use lib.Seq.{take_all}
+use Rattle.load_machine.specs.Profile.{profile_size}
+use Rattle.stand_in.proofs.Loading.{copied_more}
+use Rattle.stand_in.proofs.loads.profile_of.Given as goal
+
+abbrev pub invariant-loop-i : goal.invariant-loop-i
+invariant-loop-i l = (l.i ≤ profile_size) × (length l.profile ≡ profile_size) × (take l.i l.profile ≡ take l.i l.bytes)
+
+abbrev pub decreases-loop-i : goal.decreases-loop-i
+decreases-loop-i l = profile_size - l.i
