@@ -1,5 +1,5 @@
 -- A profile: 34 bytes, filters 0 to 5, masks 0 and 1, RXB0CTRL, RXB1CTRL. Assumes nothing: these are definitions.
-use Rattle.std.specs.Prelude.{ℕ, ◌+◌, Bool, true, false, cond, not, List, eqb, ltb, get_or}
+use Rattle.std.specs.Prelude.{ℕ, ◌+◌, Bool, true, false, cond, List, eqb, ltb, get_or}
 use Rattle.std.specs.Int.Bits.{bit_and}
 use Rattle.bits.specs.Bit.{for_below, agree_under}
 use Rattle.records.specs.Records.{refused_select}

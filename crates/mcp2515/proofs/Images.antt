@@ -13,7 +13,7 @@ use Rattle.registers.specs.declared.Core.{Core}
 use Rattle.registers.specs.State.{with_control, with_pins}
 use Rattle.registers.specs.Registers.{power_on_core}
 use Rattle.image.specs.Image.{image_size, is_chip, decoded, encoded, core_of, power_on_bytes, Became, Acted, Answered}
-use Rattle.image.proofs.Laws.{slice_above, sets_kept, drop-sets, drop_past}
+use Rattle.image.proofs.Laws.{slice_above, sets_kept, drop-sets}
 use Rattle.spi.specs.Open.{Turned, Selected}
 use Rattle.mcp2515.specs.declared.Chip.{Chip}
 use Rattle.mcp2515.specs.declared.Stepped.{Stepped}

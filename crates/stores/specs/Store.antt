@@ -1,5 +1,5 @@
 -- A store of one byte, with the rules of the address: Configuration-only registers, locked TX bytes, TXREQ, ABAT and mode requests.
-use Rattle.std.specs.Prelude.{ℕ, ◌/◌, ◌%◌, ◌-◌, Bool, true, cond, not, ◌&&◌, ◌||◌, eqb, ltb}
+use Rattle.std.specs.Prelude.{ℕ, ◌/◌, ◌%◌, Bool, true, cond, not, ◌&&◌, ◌||◌, eqb, ltb}
 use Rattle.std.specs.Int.Bits.{bit_and}
 use Rattle.bits.specs.Bit.{has_bit, set_bit, clear_bit, merged, written}
 use Rattle.registers.specs.declared.Region.{Region}

@@ -1,5 +1,4 @@
 use mathlib.Core.Path.{sym, ◌∙◌}
-use borrow.Author.Tests.{not-true, not-false}
 use Rattle.bit_timing.specs.Timing.{plan_refusal}
 use Rattle.bit_timing.proofs.refusal.Goals as goal
 

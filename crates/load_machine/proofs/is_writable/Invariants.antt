@@ -1,10 +1,7 @@
-use mathlib.Core.Path.{◌≡◌, refl, ap, ap₂, ◌∙◌}
-use mathlib.Core.Bool.{◌&&◌}
+use mathlib.Core.Path.{◌≡◌}
 use Prim.Native.Nat.{◌≤◌, ◌-◌}
-use native.Mathlib.Numerals.{add-one}
-use native.Mathlib.Omega.{arith}
 use Rattle.bits.specs.Bit.{for_below}
-use Rattle.load_machine.specs.Profile.{profile_size, is_writable_at, is_writable}
+use Rattle.load_machine.specs.Profile.{profile_size, is_writable_at}
 use Rattle.load_machine.proofs.is_writable.Given as goal
 
 abbrev pub invariant-loop-index : goal.invariant-loop-index

@@ -1,5 +1,4 @@
 use mathlib.Core.Path.{sym, ◌∙◌}
-use borrow.Author.Tests.{not-true, not-false}
 use Rattle.load_machine.specs.Profile.{refusal_for}
 use Rattle.load_machine.proofs.refusal.Goals as goal
 

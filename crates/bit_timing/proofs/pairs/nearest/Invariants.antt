@@ -1,9 +1,6 @@
-use mathlib.Core.Path.{◌≡◌, refl, ◌∙◌}
-use mathlib.Core.Logic.{⊎_elim}
+use mathlib.Core.Path.{◌≡◌}
 use Prim.Native.Nat.{◌≤◌, ◌-◌}
-use native.Mathlib.Omega.{arith}
 use Rattle.bit_timing.specs.Pairs.{pairs, size_at, IsFirstLeast}
-use Rattle.bit_timing.proofs.Least.{one, kept, moved}
 use Rattle.bit_timing.proofs.pairs.nearest.Given as goal
 
 abbrev pub invariant-loop-pair : goal.invariant-loop-pair

@@ -3,11 +3,10 @@ use native.Mathlib.Numerals.{add-one}
 use mathlib.Core.Path.{◌≡◌, refl, ap, sym, ◌∙◌}
 use mathlib.Core.Bool.{cond}
 use mathlib.Core.List.{List}
-use Prim.Native.Nat.{ℕ, ◌-◌, ◌<◌, ◌≤◌}
+use Prim.Native.Nat.{ℕ, ◌<◌}
 use Rattle.registers.specs.Registers.{region_of, is_kept, kept_from}
 use lib.ListN.{length, get_or, length-set}
-use Rattle.image.specs.Image.{image_size}
-use Rattle.image.proofs.Laws.{reset_to, reset_byte, reset_more}
+use Rattle.image.proofs.Laws.{reset_byte, reset_more}
 use Rattle.image.proofs.control.clear.Goals as goal
 
 pub loop-i-init : goal.loop-i-init

@@ -1,9 +1,8 @@
 use native.Mathlib.Omega.{arith}
-use mathlib.Core.Path.{◌≡◌, refl, ◌∙◌}
+use mathlib.Core.Path.{refl, ◌∙◌}
 use native.Mathlib.Numerals.{add-one}
-use Prim.Native.Nat.{◌-◌, ◌≤◌}
-use lib.ListN.{length, take, length-set}
-use lib.Seq.{sets, take-suc, take_all, length-take-le}
+use lib.ListN.{length-set}
+use lib.Seq.{take-suc, take_all, length-take-le}
 use Rattle.mcp2515.proofs.Images.{sets_snoc}
 use Rattle.mcp2515.proofs.packing.put_bytes.Goals as goal
 

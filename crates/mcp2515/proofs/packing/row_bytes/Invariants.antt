@@ -1,9 +1,6 @@
-use native.Mathlib.Omega.{arith}
-use mathlib.Core.Path.{◌≡◌, refl, sym, ◌∙◌}
+use mathlib.Core.Path.{◌≡◌}
 use Prim.Native.Nat.{◌-◌, ◌≤◌}
-use lib.ListN.{length, take, drop, length-set}
-use lib.Seq.{take_all}
-use Rattle.mcp2515.proofs.Images.{one_more}
+use lib.ListN.{length, take, drop}
 use Rattle.mcp2515.proofs.packing.row_bytes.Given as goal
 
 abbrev pub invariant-loop-i : goal.invariant-loop-i

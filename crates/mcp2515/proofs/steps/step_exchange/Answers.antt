@@ -3,7 +3,6 @@ use borrow.Author.Tests.{ne_eqb}
 use Rattle.spi.specs.Open.{speaker_of, open_of}
 use Rattle.spi.proofs.Turns.{lined, turned_by_lem, open_of_lem, stayed, act_accepted}
 use Rattle.records.specs.declared.Outcome.{Outcome}
-use Rattle.mcp2515.proofs.Sides.{unless, provided}
 use Rattle.mcp2515.proofs.steps.step_exchange.Goals as goal
 
 pub returns-then-image-eq-RAISED : goal.returns-then-image-eq-RAISED

@@ -4,7 +4,6 @@ use Rattle.image.specs.Image.{core_of}
 use Rattle.spi.specs.Open.{speaker_of, open_of}
 use Rattle.spi.proofs.Turns.{lined, turned_by_lem, stayed, high_told}
 use Rattle.records.specs.declared.Outcome.{Outcome}
-use Rattle.mcp2515.proofs.Sides.{unless, provided}
 use Rattle.mcp2515.proofs.steps.step_high.Goals as goal
 
 pub returns-then-image-eq-RAISED : goal.returns-then-image-eq-RAISED

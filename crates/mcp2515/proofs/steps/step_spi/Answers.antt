@@ -5,7 +5,7 @@ use native.Mathlib.Omega.{arith}
 use Rattle.records.specs.Records.{kind_by, sound_plain, record_of}
 use Rattle.spi.proofs.Turns.{lined, turned_by_lem}
 use Rattle.mcp2515.specs.ChipImage.{chip_of}
-use Rattle.mcp2515.proofs.Sides.{turned_moved, unsound_step, low_step, exchange_step, high_step, unless, provided, told_as, moved_as}
+use Rattle.mcp2515.proofs.Sides.{turned_moved, unsound_step, low_step, exchange_step, high_step, told_as, moved_as}
 use Rattle.mcp2515.proofs.steps.step_spi.Goals as goal
 
 pub returns-then-not-is_sound_plain : goal.returns-then-not-is_sound_plain

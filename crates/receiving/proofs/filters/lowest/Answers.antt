@@ -1,8 +1,5 @@
-use mathlib.Core.Path.{◌≡◌, refl, sym, ◌∙◌}
-use Prim.Native.Nat.{◌≤◌, ◌-◌}
+use mathlib.Core.Path.{refl, sym, ◌∙◌}
 use native.Mathlib.Omega.{arith}
-use Rattle.receiving.specs.Receiving.{lowest_from}
-use Rattle.receiving.specs.Words.{word_matches}
 use Rattle.receiving.proofs.Look.{skipped, found, ended}
 use Rattle.receiving.proofs.filters.lowest.Goals as goal
 

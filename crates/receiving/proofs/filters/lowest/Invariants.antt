@@ -1,9 +1,7 @@
-use mathlib.Core.Path.{◌≡◌, refl, sym, ◌∙◌}
+use mathlib.Core.Path.{◌≡◌}
 use Prim.Native.Nat.{◌≤◌, ◌-◌}
-use native.Mathlib.Omega.{arith}
 use Rattle.receiving.specs.Receiving.{lowest_from}
 use Rattle.receiving.specs.Words.{word_matches}
-use Rattle.receiving.proofs.Look.{skipped, found, ended}
 use Rattle.receiving.proofs.filters.lowest.Given as goal
 
 abbrev pub invariant-loop-filter : goal.invariant-loop-filter

@@ -1,8 +1,6 @@
 use mathlib.Core.Path.{◌≡◌, refl}
-use Prim.Native.Nat.{◌≤◌, ◌-◌}
 use native.Mathlib.Omega.{arith}
 use Rattle.receiving.specs.Receiving.{filters, set_of}
-use Rattle.receiving.specs.Words.{word_matches}
 use Rattle.receiving.proofs.Sets.{set_next}
 use Rattle.receiving.proofs.filters.matched_by.Goals as goal
 

@@ -1,9 +1,7 @@
-use mathlib.Core.Path.{◌≡◌, refl}
+use mathlib.Core.Path.{◌≡◌}
 use Prim.Native.Nat.{◌≤◌, ◌-◌}
-use native.Mathlib.Omega.{arith}
 use Rattle.receiving.specs.Receiving.{filters, set_of}
 use Rattle.receiving.specs.Words.{word_matches}
-use Rattle.receiving.proofs.Sets.{set_next}
 use Rattle.receiving.proofs.filters.matched_by.Given as goal
 
 abbrev pub invariant-loop-filter : goal.invariant-loop-filter

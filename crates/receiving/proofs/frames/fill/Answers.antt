@@ -1,10 +1,7 @@
-use Prim.Native.Nat.{◌≤◌, ◌-◌}
 use native.Mathlib.Omega.{arith}
 use native.Mathlib.Numerals.{add-one}
 use mathlib.Core.Path.{◌≡◌, refl, sym, ◌∙◌}
-use lib.ListN.{length, length-set}
-use Rattle.image.specs.Image.{image_size}
-use Rattle.receiving.specs.Receiving.{filled}
+use lib.ListN.{length-set}
 use Rattle.receiving.proofs.frames.fill.Goals as goal
 
 pub loop-j-init : goal.loop-j-init
