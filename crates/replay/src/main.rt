@@ -5,19 +5,32 @@
 ghost use Rattle.std.specs.Prelude.{◌≡◌, ◌+◌, ◌*◌, ◌≤◌, length, IfOk};
 ghost use Rattle.bus_log.specs.Log.{record_size};
 
-use anyhow::{Context, Result};
 use bus_log::{MAX_RECORDS, RECORD_SIZE};
 use mcp2515::Chip;
 use std::fs::File;
 use std::io;
 use std::io::{Read, Write};
 use std::process::ExitCode;
+use thiserror::Error;
 
 // The most bytes that are read at once. The text of so many records fits the output buffer.
 const STRETCH: usize = 2048 * RECORD_SIZE;
 
 // A log with one record too many, read a byte at a time.
 const MOST_READS: usize = (MAX_RECORDS + 1) * RECORD_SIZE + 1;
+
+// What ended a replay early.
+#[derive(Debug, Drop, Error)]
+enum Failure {
+    #[error("argument: {0}")]
+    Argument(io::Error),
+    #[error("{0}: {1}")]
+    Open(String, io::Error),
+    #[error("reading the log: {0}")]
+    Log(io::Error),
+    #[error("standard output: {0}")]
+    Output(io::Error),
+}
 
 // The records run so far, the chip that they left, the bytes of a record that is not whole yet, and
 // whether to go on.
@@ -41,18 +54,18 @@ fn replay_part<W: Write>(
     part: &[u8],
     text: &mut [u8],
     output: &mut W,
-) -> Result<Progress> {
+) -> Result<Progress, Failure> {
     let rendered = log_text::render_stretch(progress.chip, progress.number, part, text);
     let len = rendered.len;
-    let fits = len <= text.len();
-    if fits {
-        output.write_all(&text[..len]).context("standard output")?;
+    if len > text.len() {
+        return Err(Failure::Output(io::Error::from(io::ErrorKind::Other)));
     }
+    output.write_all(&text[..len]).map_err(Failure::Output)?;
     Ok(Progress {
         chip: rendered.chip,
         number: rendered.number,
         kept: 0,
-        more: fits & (rendered.refusal == 0),
+        more: rendered.refusal == 0,
     })
 }
 
@@ -79,7 +92,7 @@ fn replay_whole<W: Write>(
     size: usize,
     text: &mut [u8],
     output: &mut W,
-) -> Result<Progress>
+) -> Result<Progress, Failure>
     requires { size ≤ length input.old }
 {
     let left = size % RECORD_SIZE;
@@ -108,12 +121,12 @@ fn replay_read<R: Read, W: Write>(
     input: &mut [u8],
     text: &mut [u8],
     output: &mut W,
-) -> Result<Progress> {
+) -> Result<Progress, Failure> {
     let kept = progress.kept;
     if kept >= input.len() {
         return Ok(stopped(progress));
     }
-    let got = read_behind(log, input, kept).context("reading the log")?;
+    let got = read_behind(log, input, kept).map_err(Failure::Log)?;
     if got == 0 {
         let last = replay_part(progress, &input[..kept], text, output)?;
         return Ok(stopped(last));
@@ -121,7 +134,7 @@ fn replay_read<R: Read, W: Write>(
     replay_whole(progress, input, kept + got, text, output)
 }
 
-fn replay_log<R: Read, W: Write>(log: &mut R, output: &mut W) -> Result<()> {
+fn replay_log<R: Read, W: Write>(log: &mut R, output: &mut W) -> Result<(), Failure> {
     let mut input = stretch_buffer();
     let mut text = [0u8; 65536];
     let mut progress = Progress {
@@ -148,63 +161,70 @@ fn open_log(rt: &HostRuntime, name: &str) -> io::Result<File> {
 
 const USAGE: &str = "usage: replay [--help] [--] [LOG]";
 
-fn show_help(rt: &HostRuntime) -> Result<()> {
-    println!(rt; "{USAGE}").context("standard output")?;
+fn show_help(rt: &HostRuntime) -> Result<(), Failure> {
+    println!(rt; "{USAGE}").map_err(Failure::Output)?;
     println!(rt;
         "Replays LOG, or standard input where LOG is missing or -, from power-on."
-    ).context("standard output")?;
-    println!(rt; "Prints a line for each record: its number from 1, refusal, answer.").context(
-        "standard output",
+    ).map_err(Failure::Output)?;
+    println!(rt; "Prints a line for each record: its number from 1, refusal, answer.").map_err(
+        Failure::Output,
     )
 }
 
-fn show_usage(rt: &HostRuntime) -> Result<()> {
-    eprintln!(rt; "{USAGE}").context("standard error")
+fn show_usage(rt: &HostRuntime) {
+    let _ = eprintln!(rt; "{USAGE}");
+}
+
+fn replay_stdin(rt: &HostRuntime) -> Result<(), Failure> {
+    replay_log(&mut rt.stdin(), &mut rt.stdout())
 }
 
 // A dash alone is standard input.
-fn replay_named(rt: &HostRuntime, name: &str) -> Result<()> {
-    if name == "-" {
-        return replay_log(&mut rt.stdin(), &mut rt.stdout());
+fn replay_named(rt: &HostRuntime, name: String) -> Result<(), Failure> {
+    if name.as_str() == "-" {
+        return replay_stdin(rt);
     }
-    let mut file = open_log(rt, name).context(format_args!("{name}"))?;
-    replay_log(&mut file, &mut rt.stdout())
+    match open_log(rt, name.as_str()) {
+        Ok(mut file) => replay_log(&mut file, &mut rt.stdout()),
+        Err(error) => Err(Failure::Open(name, error)),
+    }
 }
 
 fn is_option(word: &str) -> bool {
     word.len() > 1 && word.as_bytes()[0] == b'-'
 }
 
-fn run(rt: &HostRuntime) -> Result<()> {
-    let mut words = std::env::args(rt).context("argument")?;
+fn run(rt: &HostRuntime) -> Result<(), Failure> {
+    let mut words = std::env::args(rt).map_err(Failure::Argument)?;
     let _program = words.next();
-    let Some(first) = words.next() else {
-        return replay_named(rt, "-");
+    let Some(mut first) = words.next() else {
+        return replay_stdin(rt);
     };
-    let second = words.next();
-    let third = words.next();
     if first.as_str() == "--help" {
         return show_help(rt);
     }
     if first.as_str() == "--" {
         // What follows the two dashes that end the options.
-        return match (&second, &third) {
-            (None, _) => replay_named(rt, "-"),
-            (Some(name), None) => replay_named(rt, name.as_str()),
-            _ => show_usage(rt),
+        let Some(name) = words.next() else {
+            return replay_stdin(rt);
         };
+        first = name;
+    } else if is_option(first.as_str()) {
+        show_usage(rt);
+        return Ok(());
     }
-    if is_option(first.as_str()) || second.is_some() {
-        return show_usage(rt);
+    if words.next().is_some() {
+        show_usage(rt);
+        return Ok(());
     }
-    replay_named(rt, first.as_str())
+    replay_named(rt, first)
 }
 
 fn main(rt: HostRuntime) -> ExitCode {
     match run(&rt) {
         Ok(()) => ExitCode::SUCCESS,
-        Err(error) => {
-            let _ = eprintln!(rt; "{error:#}");
+        Err(failure) => {
+            let _ = eprintln!(rt; "{failure}");
             ExitCode::FAILURE
         }
     }
