@@ -20,7 +20,7 @@ use Rattle.registers.specs.declared.Control.{Control}
 use Rattle.registers.specs.declared.Core.{Core}
 use Rattle.registers.specs.State.{abat_bit, mode_number, with_request}
 use Rattle.registers.specs.Registers.{rx_control, receive_bits}
-use Rattle.registers.specs.Modes.{request_in, sends_in, waits, entered, free_to_change, settled_by, settled}
+use Rattle.registers.specs.Modes.{request_in, sends_in, entered, free_to_change, settled_by, settled}
 use Rattle.stores.specs.Store.{aborted, canctrl_held, canctrl_stored}
 use Rattle.controller.specs.Events.{Told, happens_by, event_refusal, told_of, refused_by, event_of}
 use Rattle.spi.proofs.Clash.{clash}

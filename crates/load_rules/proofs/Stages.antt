@@ -14,7 +14,7 @@ use Rattle.registers.specs.declared.State.{State}
 use Rattle.registers.specs.declared.Flags.{Flags}
 use Rattle.registers.specs.declared.Core.{Core}
 use Rattle.registers.specs.State.{with_control}
-use Rattle.registers.specs.Registers.{region_of, is_profile, hidden, holds, reads}
+use Rattle.registers.specs.Registers.{region_of, is_profile, holds, reads}
 use Rattle.stores.specs.Store.{stored}
 use Rattle.controller.specs.Events.{settled_core}
 use Rattle.mcp2515.specs.declared.Chip.{Chip}

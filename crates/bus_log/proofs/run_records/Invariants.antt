@@ -1,18 +1,12 @@
-use native.Mathlib.Omega.{arith}
-use mathlib.Core.Path.{◌≡◌, refl, ap, sym, ◌∙◌}
+use mathlib.Core.Path.{◌≡◌}
 use mathlib.Core.Bool.{true}
-use Prim.Native.Nat.{ℕ, ◌+◌, ◌*◌, ◌-◌, ◌≤◌}
-use mathlib.Core.List.{List}
+use Prim.Native.Nat.{◌+◌, ◌*◌, ◌≤◌}
 use lib.ListN.{length, drop}
-use lib.Seq.{sets, length-sets}
+use lib.Seq.{sets}
 use Rattle.image.specs.Image.{image_size}
-use Rattle.mcp2515.specs.Step.{step_of, outcome_in}
 use Rattle.mcp2515.specs.ChipImage.{chip_of}
-use Rattle.bus_log.specs.Log.{record_size, record_at, steps_of, last_chip, all_refused, answer_bytes, answers_of}
+use Rattle.bus_log.specs.Log.{record_size, steps_of, last_chip, all_refused, answers_of}
 use Rattle.bus_log.specs.Run.{answer_room}
-use Rattle.bus_log.proofs.Advance.{ran, first_refused}
-use Rattle.bus_log.proofs.Answers.{room_less, store_step}
-use Rattle.bus_log.proofs.Steps.{next_step, next_chip}
 use Rattle.bus_log.proofs.run_records.Given as goal
 
 abbrev pub invariant-loop-left : goal.invariant-loop-left

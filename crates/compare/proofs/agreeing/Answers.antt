@@ -1,9 +1,7 @@
 use mathlib.Core.Path.{◌≡◌, refl, sym, ◌∙◌}
-use Prim.Native.Nat.{ℕ, ◌+◌, ◌*◌, ◌-◌, ◌≤◌}
+use Prim.Native.Nat.{ℕ, ◌+◌, ◌-◌}
 use native.Mathlib.Omega.{arith}
-use borrow.Author.Tests.{not-true, not-false}
 use lib.ListN.{drop}
-use Rattle.bus_log.specs.Log.{record_size}
 use Rattle.compare.specs.Block.{agreeing_of}
 use Rattle.compare.proofs.Blocks.{agree_step, agree_stop}
 use Rattle.compare.proofs.agreeing.Goals as goal

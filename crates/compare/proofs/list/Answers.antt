@@ -1,15 +1,12 @@
 use mathlib.Core.Path.{◌≡◌, refl, sym, ◌∙◌}
 use mathlib.Core.Bool.{true}
-use Prim.Native.Nat.{ℕ, ◌+◌, ◌*◌, ◌≤◌}
+use Prim.Native.Nat.{ℕ, ◌+◌, ◌≤◌}
 use native.Mathlib.Omega.{arith}
-use lib.ListN.{length, drop}
-use lib.Seq.{sets}
-use Rattle.image.specs.Image.{is_chip}
+use lib.ListN.{drop}
 use Rattle.image.proofs.Laws.{chip_size}
 use Rattle.mcp2515.specs.ChipImage.{chip_of}
-use Rattle.bus_log.specs.Log.{record_size}
 use Rattle.bus_log.specs.Run.{answer_room}
-use Rattle.compare.specs.Compare.{differences_from, entries_of, entry_room}
+use Rattle.compare.specs.Compare.{differences_from, entries_of}
 use Rattle.compare.proofs.Blocks.{parts_stored, parts_sizes, block_most, block_parts}
 use Rattle.compare.proofs.list.Goals as goal
 

@@ -1,13 +1,11 @@
 use mathlib.Core.Path.{◌≡◌, refl, ◌∙◌}
-use mathlib.Core.Bool.{true, cond, not, ◌&&◌}
-use Prim.Native.Nat.{◌+◌, ◌*◌, ◌≤◌}
+use mathlib.Core.Bool.{cond, not, ◌&&◌}
+use Prim.Native.Nat.{◌+◌}
 use native.Mathlib.Omega.{arith}
 use borrow.Author.Tests.{ltb-true}
 use lib.Dec.{eqb, ltb}
-use lib.ListN.{length, drop}
+use lib.ListN.{length}
 use lib.Seq.{sets}
-use Rattle.bus_log.specs.Log.{record_size}
-use Rattle.bus_log.specs.Run.{answer_room}
 use Rattle.compare.specs.Compare.{Difference, entry_of, entries_of, entry_room}
 use Rattle.compare.specs.Block.{told_in, differences_in}
 use Rattle.compare.proofs.Tests.{and_both}

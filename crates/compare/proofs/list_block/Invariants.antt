@@ -1,17 +1,13 @@
-use mathlib.Core.Path.{◌≡◌, refl, ◌∙◌}
-use mathlib.Core.Bool.{true, cond, not, ◌&&◌}
+use mathlib.Core.Path.{◌≡◌}
+use mathlib.Core.Bool.{true}
 use Prim.Native.Nat.{◌+◌, ◌*◌, ◌≤◌}
-use native.Mathlib.Omega.{arith}
-use borrow.Author.Tests.{ltb-true}
-use lib.Dec.{eqb, ltb}
+use lib.Dec.{ltb}
 use lib.ListN.{length, drop}
 use lib.Seq.{sets}
 use Rattle.bus_log.specs.Log.{record_size}
 use Rattle.bus_log.specs.Run.{answer_room}
-use Rattle.compare.specs.Compare.{Difference, entry_of, entries_of, entry_room}
-use Rattle.compare.specs.Block.{told_in, differences_in}
-use Rattle.compare.proofs.Tests.{and_both}
-use Rattle.compare.proofs.Blocks.{at_most_one, item_listed, some_left, step_counted, parts_stored, record_parts}
+use Rattle.compare.specs.Compare.{entries_of, entry_room}
+use Rattle.compare.specs.Block.{differences_in}
 use Rattle.compare.proofs.list_block.Given as goal
 
 abbrev pub invariant-loop-left : goal.invariant-loop-left

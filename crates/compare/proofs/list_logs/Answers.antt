@@ -1,16 +1,13 @@
-use mathlib.Core.Path.{◌≡◌, refl, ap, sym, ◌∙◌}
+use mathlib.Core.Path.{◌≡◌, sym, ◌∙◌}
 use mathlib.Core.Bool.{true, false}
-use Prim.Native.Nat.{ℕ, ◌+◌, ◌*◌, ◌-◌, ◌/◌, ◌≤◌, min}
+use Prim.Native.Nat.{◌/◌, min}
 use native.Mathlib.Omega.{arith}
 use borrow.Author.Tests.{ltb-false}
 use lib.Dec.{ltb}
-use lib.ListN.{length, drop}
-use Rattle.image.specs.Image.{power_on_bytes}
-use Rattle.mcp2515.specs.ChipImage.{chip_of}
+use lib.ListN.{length}
 use Rattle.mcp2515.proofs.Images.{power_on_is_chip}
-use Rattle.bus_log.specs.Log.{record_size}
-use Rattle.compare.specs.Compare.{differences_from, records_in_both, differences_of, entry_room}
-use Rattle.compare.specs.Block.{Ahead, agreeing_of}
+use Rattle.compare.specs.Compare.{records_in_both, differences_of, entry_room}
+use Rattle.compare.specs.Block.{agreeing_of}
 use Rattle.compare.proofs.Blocks.{agree_most}
 use Rattle.compare.proofs.Whole.{behind_agreeing, none_behind, none_told, lacking_told, listed_told}
 use Rattle.compare.proofs.list_logs.Goals as goal

@@ -1,12 +1,10 @@
-use mathlib.Core.Path.{◌≡◌, refl, ap, sym, ◌∙◌}
+use mathlib.Core.Path.{◌≡◌}
 use mathlib.Core.Bool.{true}
-use Prim.Native.Nat.{ℕ, ◌+◌}
-use native.Mathlib.Omega.{arith}
+use Prim.Native.Nat.{◌+◌}
 use lib.ListN.{length}
 use Rattle.image.specs.Image.{is_chip}
 use Rattle.mcp2515.specs.ChipImage.{chip_of}
 use Rattle.bus_log.specs.Log.{steps_of, last_chip}
-use Rattle.compare.proofs.Runs.{chip_parts}
 use Rattle.compare.proofs.run_ahead.Given as goal
 
 abbrev pub invariant-loop-left : goal.invariant-loop-left

@@ -1,20 +1,15 @@
 use mathlib.Core.Path.{◌≡◌, refl, ap, sym, ◌∙◌}
-use mathlib.Core.Bool.{true}
-use mathlib.Core.List.{List}
-use Prim.Native.Nat.{ℕ, ◌+◌, ◌*◌, ◌-◌, ◌≤◌}
+use Prim.Native.Nat.{◌+◌, ◌-◌}
 use native.Mathlib.Omega.{arith}
 use lib.ListN.{length, drop, length-drop}
 use lib.Seq.{length-take-le}
 use Rattle.records.specs.declared.Outcome.{Outcome}
-use Rattle.image.specs.Image.{image_size}
 use Rattle.mcp2515.specs.declared.Chip.{Chip}
 use Rattle.mcp2515.specs.declared.Stepped.{Stepped}
 use Rattle.mcp2515.specs.Step.{step_of}
 use Rattle.mcp2515.specs.ChipImage.{chip_of}
-use Rattle.bus_log.specs.Log.{record_size, record_at, steps_of, last_chip, all_refused}
+use Rattle.bus_log.specs.Log.{record_size, record_at, steps_of, last_chip}
 use Rattle.log_text.specs.Line.{lines_of}
-use Rattle.log_text.specs.Storing.{Stored}
-use Rattle.log_text.specs.Stretch.{line_room}
 use Rattle.log_text.proofs.Stores.{then_stored, none_stored}
 use Rattle.log_text.proofs.Lines.{next_line, next_chip, next_refused}
 use Rattle.log_text.proofs.put_records.Goals as goal

@@ -1,10 +1,9 @@
 use native.Mathlib.Omega.{arith}
-use mathlib.Core.Path.{◌≡◌, refl, ◌∙◌}
+use mathlib.Core.Path.{refl, ◌∙◌}
 use native.Mathlib.Numerals.{add-one}
 use native.Mathlib.Nat.{zero-add}
-use Prim.Native.Nat.{◌-◌, ◌≤◌}
-use lib.ListN.{length, take, length-set}
-use lib.Seq.{sets, take-suc, take_all, length-take-le}
+use lib.ListN.{length-set}
+use lib.Seq.{take-suc, take_all, length-take-le}
 use Rattle.mcp2515.proofs.Images.{sets_snoc}
 use Rattle.stand_in.proofs.put_first.Goals as goal
 

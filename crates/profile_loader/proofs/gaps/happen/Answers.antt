@@ -1,8 +1,8 @@
-use mathlib.Core.Path.{◌≡◌, refl, sym, ap, ◌∙◌}
+use mathlib.Core.Path.{refl, sym, ap, ◌∙◌}
 use native.Mathlib.Omega.{arith}
 use Prim.Native.Nat.{ℕ}
-use lib.ListN.{length, take, drop}
-use Rattle.profile_loader.proofs.Ahead.{Ahead, at_first, one_further, all_come}
+use lib.ListN.{take, drop}
+use Rattle.profile_loader.proofs.Ahead.{at_first, one_further, all_come}
 use Rattle.profile_loader.proofs.Entries.{some_left}
 use Rattle.profile_loader.proofs.gaps.happen.Goals as goal
 

@@ -1,9 +1,6 @@
-use mathlib.Core.Path.{◌≡◌, refl, sym, ap, ◌∙◌}
-use native.Mathlib.Omega.{arith}
-use Prim.Native.Nat.{ℕ}
-use lib.ListN.{length, take, drop}
-use Rattle.profile_loader.proofs.Ahead.{Ahead, at_first, one_further, all_come}
-use Rattle.profile_loader.proofs.Entries.{some_left}
+use mathlib.Core.Path.{◌≡◌}
+use lib.ListN.{length}
+use Rattle.profile_loader.proofs.Ahead.{Ahead}
 use Rattle.profile_loader.proofs.gaps.happen.Given as goal
 
 abbrev pub invariant-loop-at : goal.invariant-loop-at

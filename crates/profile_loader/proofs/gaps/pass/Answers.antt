@@ -7,7 +7,6 @@ use native.Mathlib.Omega.{arith}
 use Rattle.mcp2515.specs.Step.{chip_after}
 use Rattle.load_rules.specs.Load.{events_in}
 use Rattle.profile_loader.specs.Gaps.{log_of}
-use borrow.Author.Tests.{not-true, not-false}
 use Rattle.profile_loader.proofs.gaps.pass.Goals as goal
 
 pub returns-then-not-is_event : goal.returns-then-not-is_event

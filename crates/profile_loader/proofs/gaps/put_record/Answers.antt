@@ -1,9 +1,8 @@
-use mathlib.Core.Path.{◌≡◌, refl, ap, ◌∙◌}
+use mathlib.Core.Path.{refl, ap, ◌∙◌}
 use native.Mathlib.Numerals.{add-one}
 use native.Mathlib.Omega.{arith}
-use Prim.Native.Nat.{◌-◌, ◌≤◌}
-use lib.ListN.{length, take}
-use lib.Seq.{sets, take-suc, take_all, length-take-le, length-sets}
+use lib.ListN.{length}
+use lib.Seq.{take-suc, take_all, length-take-le, length-sets}
 use Rattle.mcp2515.proofs.Images.{sets_snoc}
 use Rattle.profile_loader.proofs.gaps.put_record.Goals as goal
 

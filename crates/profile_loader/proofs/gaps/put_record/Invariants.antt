@@ -1,10 +1,7 @@
-use mathlib.Core.Path.{◌≡◌, refl, ap, ◌∙◌}
-use native.Mathlib.Numerals.{add-one}
-use native.Mathlib.Omega.{arith}
+use mathlib.Core.Path.{◌≡◌}
 use Prim.Native.Nat.{◌-◌, ◌≤◌}
-use lib.ListN.{length, take}
-use lib.Seq.{sets, take-suc, take_all, length-take-le, length-sets}
-use Rattle.mcp2515.proofs.Images.{sets_snoc}
+use lib.ListN.{take}
+use lib.Seq.{sets}
 use Rattle.profile_loader.proofs.gaps.put_record.Given as goal
 
 abbrev pub invariant-loop-i : goal.invariant-loop-i

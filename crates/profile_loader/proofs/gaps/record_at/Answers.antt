@@ -1,8 +1,8 @@
 use mathlib.Core.Path.{◌≡◌, refl, ap, sym, ◌∙◌}
 use mathlib.Core.List.{List}
 use native.Mathlib.Omega.{arith}
-use Prim.Native.Nat.{ℕ, ◌+◌, ◌-◌, ◌≤◌}
-use lib.ListN.{length, take, drop, length-set}
+use Prim.Native.Nat.{ℕ, ◌+◌}
+use lib.ListN.{take, length-set}
 use lib.Seq.{take_all, drop-drop}
 use Rattle.mcp2515.proofs.Images.{one_more}
 use Rattle.profile_loader.proofs.gaps.record_at.Goals as goal

@@ -1,10 +1,6 @@
-use mathlib.Core.Path.{◌≡◌, refl, ap, sym, ◌∙◌}
-use mathlib.Core.List.{List}
-use native.Mathlib.Omega.{arith}
-use Prim.Native.Nat.{ℕ, ◌+◌, ◌-◌, ◌≤◌}
-use lib.ListN.{length, take, drop, length-set}
-use lib.Seq.{take_all, drop-drop}
-use Rattle.mcp2515.proofs.Images.{one_more}
+use mathlib.Core.Path.{◌≡◌}
+use Prim.Native.Nat.{◌+◌, ◌-◌, ◌≤◌}
+use lib.ListN.{length, take, drop}
 use Rattle.profile_loader.proofs.gaps.record_at.Given as goal
 
 abbrev pub invariant-loop-i : goal.invariant-loop-i

@@ -1,17 +1,10 @@
-use mathlib.Core.Path.{◌≡◌, refl, ap, ◌∙◌}
-use mathlib.Core.List.{List}
-use Prim.Native.Nat.{ℕ, ◌+◌, ◌*◌, ◌-◌, ◌≤◌}
-use native.Mathlib.Omega.{arith}
+use mathlib.Core.Path.{◌≡◌}
+use Prim.Native.Nat.{◌+◌, ◌*◌, ◌-◌, ◌≤◌}
 use lib.ListN.{length}
 use lib.Seq.{sets}
-use Rattle.mcp2515.specs.Step.{chip_after}
-use Rattle.load_machine.specs.Machine.{records_by, record_of_command}
-use Rattle.load_rules.specs.Load.{last_reply}
-use Rattle.profile_loader.specs.declared.Replied.{Replied}
+use Rattle.load_machine.specs.Machine.{records_by}
 use Rattle.profile_loader.specs.Gaps.{log_of}
-use Rattle.profile_loader.specs.Running.{replied, exchanged}
-use Rattle.profile_loader.proofs.Logs.{put_next}
-use Rattle.profile_loader.proofs.Sessions.{records_most, record_size, records_next, replied_by, replied_next}
+use Rattle.profile_loader.proofs.Sessions.{replied_by}
 use Rattle.profile_loader.proofs.runs.perform.Given as goal
 
 abbrev pub invariant-loop-index : goal.invariant-loop-index

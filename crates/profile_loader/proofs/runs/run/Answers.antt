@@ -1,11 +1,7 @@
 use mathlib.Core.Path.{◌≡◌, refl, ◌∙◌}
-use mathlib.Core.List.{[]}
 use native.Mathlib.Omega.{arith}
-use Prim.Native.Nat.{◌-◌, ◌≤◌}
-use lib.ListN.{length}
 use Rattle.load_rules.specs.Load.{load_of}
-use Rattle.profile_loader.specs.Running.{progress_of}
-use Rattle.profile_loader.proofs.Going.{so_far, Going, begins, goes_on}
+use Rattle.profile_loader.proofs.Going.{begins, goes_on}
 use Rattle.profile_loader.proofs.runs.run.Goals as goal
 
 pub loop-number-init : goal.loop-number-init

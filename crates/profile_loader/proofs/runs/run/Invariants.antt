@@ -1,11 +1,9 @@
-use mathlib.Core.Path.{◌≡◌, refl, ◌∙◌}
+use mathlib.Core.Path.{◌≡◌}
 use mathlib.Core.List.{[]}
-use native.Mathlib.Omega.{arith}
 use Prim.Native.Nat.{◌-◌, ◌≤◌}
 use lib.ListN.{length}
-use Rattle.load_rules.specs.Load.{load_of}
 use Rattle.profile_loader.specs.Running.{progress_of}
-use Rattle.profile_loader.proofs.Going.{so_far, Going, begins, goes_on}
+use Rattle.profile_loader.proofs.Going.{so_far, Going}
 use Rattle.profile_loader.proofs.runs.run.Given as goal
 
 abbrev pub invariant-loop-number : goal.invariant-loop-number

@@ -1,10 +1,7 @@
-use mathlib.Core.Path.{◌≡◌, refl, sym, ◌∙◌}
+use mathlib.Core.Path.{◌≡◌}
 use Prim.Native.Nat.{◌-◌, ◌≤◌}
-use native.Mathlib.Omega.{arith}
-use lib.ListN.{length, take, length-set}
-use lib.Seq.{take_all}
+use lib.ListN.{length, take}
 use Rattle.load_machine.specs.Profile.{profile_size}
-use Rattle.stand_in.proofs.Loading.{copied_more}
 use Rattle.stand_in.proofs.loads.profile_of.Given as goal
 
 abbrev pub invariant-loop-i : goal.invariant-loop-i
