@@ -2,8 +2,8 @@
 
 # The crate whose archive C programs link.
 LIBRARY = stand_in
-ARCHIVE = target/staticlib/lib$(LIBRARY).a
-REPLAY = target/bin/replay
+ARCHIVE = crates/$(LIBRARY)/out/lib$(LIBRARY).a
+REPLAY = crates/replay/out/replay
 
 CC = gcc
 CFLAGS = -std=c11 -O2 -Wall -Wextra -Werror
@@ -23,12 +23,12 @@ all: prove lib tool sample
 
 # What the proofs say goes to a file; a line for each crate is shown as it is proved.
 prove:
-	@echo "== proving the crates and building the replay program: 4 to 7 minutes the first time (build/prove.log has the prover's notes)"
-	@.ci/progress build/prove.log rt check replay
+	@echo "== proving the crates and building the replay program: some minutes the first time (build/prove.log has the prover's notes)"
+	@.ci/progress build/prove.log sh -c 'cd crates/replay && rt run <stdin >/dev/null'
 
 lib:
 	@echo "== building $(ARCHIVE)"
-	@.ci/progress build/lib.log rt staticlib $(LIBRARY)
+	@.ci/progress build/lib.log sh -c 'cd crates/$(LIBRARY) && rt lib'
 
 tool: $(TOOL)
 
@@ -89,11 +89,11 @@ check:
 	@.ci/progress build/check.log .ci/run
 
 clean:
-	rm -rf target build
+	rm -rf build crates/*/out
 	$(MAKE) -C bench clean
 
 help:
-	@echo "make            prove the code, build replay, archive and tool, replay a sample (4 to 7 minutes)"
+	@echo "make            prove the code, build replay, archive and tool, replay a sample (some minutes the first time)"
 	@echo "make lib        the archive for C programs: $(ARCHIVE)"
 	@echo "make tool       the command-line tool, from the archive: $(TOOL)"
 	@echo "make examples   build and run examples/*.c"
