@@ -45,18 +45,25 @@ cp "$(dirname "$0")/sets.want" "$work/want" || exit 1
 "$replay" "$logs/sets.log" >"$work/got"
 check_run "frames with their sets" $?
 
-# A log that gives nothing: no line, and a message.
+# A log that gives nothing: no line, a message, and the status that is wanted.
 check_failure() {
     "$replay" "$2" >"$work/got" 2>"$work/message"
-    [ $? -lt 126 ] || stop "$1: ended by a signal"
+    status=$?
+    [ "$status" -eq "$3" ] || stop "$1: expected status $3, got $status"
     [ ! -s "$work/got" ] || stop "$1: expected nothing on standard output"
     [ -s "$work/message" ] || stop "$1: expected a message on standard error"
 }
 
-check_failure "a file that is not there" "$work/no-such.log"
-check_failure "a directory" "$work"
+check_failure "a file that is not there" "$work/no-such.log" 1
+check_failure "a directory" "$work" 1
 # This one opens, and its first byte cannot be read.
-check_failure "a file that cannot be read" /proc/self/mem
+check_failure "a file that cannot be read" /proc/self/mem 1
+check_failure "a name that is not text" "$(printf '%s/\377' "$work")" 1
+if [ -c /dev/full ]; then
+    "$replay" "$logs/five.log" 2>"$work/message" >/dev/full
+    [ $? -eq 1 ] || stop "a full device: expected status 1"
+    grep -q '^standard output: ' "$work/message" || stop "a full device: expected a message"
+fi
 
 # Options: - is standard input, -- ends the options, and anything else that starts with a dash is refused.
 "$expected" "$logs/five.log" >"$work/want"
@@ -68,7 +75,7 @@ check_run "a name behind --" $?
 check_run "-- and no name" $?
 "$replay" --help >"$work/got" 2>"$work/message"
 grep -q '^usage: ' "$work/got" || stop "--help: expected the usage on standard output"
-check_failure "an unknown option" --no-such-option
+check_failure "an unknown option" --no-such-option 0
 
 # Input that pauses inside the second record: the first line comes before the rest of the log.
 (head -c 20 "$logs/five.log"; sleep 2; tail -c +21 "$logs/five.log") | "$replay" >"$work/got" &

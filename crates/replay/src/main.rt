@@ -7,6 +7,7 @@ ghost use Rattle.bus_log.specs.Log.{record_size};
 
 use bus_log::{MAX_RECORDS, RECORD_SIZE};
 use mcp2515::Chip;
+use std::env::{Env, FillError};
 use std::fs::File;
 use std::io;
 use std::io::{Read, Write};
@@ -19,13 +20,16 @@ const STRETCH: usize = 2048 * RECORD_SIZE;
 // A log with one record too many, read a byte at a time.
 const MOST_READS: usize = (MAX_RECORDS + 1) * RECORD_SIZE + 1;
 
+// The most bytes of a word of the command line, and the system's number for one that is longer.
+const WORD_SIZE: usize = 4096;
+
+const ENAMETOOLONG: i32 = 36;
+
 // What ended a replay early.
 #[derive(Debug, Drop, Error)]
 enum Failure {
     #[error("argument: {0}")]
     Argument(io::Error),
-    #[error("{0}: {1}")]
-    Open(String, io::Error),
     #[error("reading the log: {0}")]
     Log(io::Error),
     #[error("standard output: {0}")]
@@ -171,61 +175,103 @@ fn show_help(rt: &HostRuntime) -> Result<(), Failure> {
     )
 }
 
-fn show_usage(rt: &HostRuntime) {
+fn show_usage(rt: &HostRuntime) -> ExitCode {
     let _ = eprintln!(rt; "{USAGE}");
+    ExitCode::SUCCESS
 }
 
-fn replay_stdin(rt: &HostRuntime) -> Result<(), Failure> {
-    replay_log(&mut rt.stdin(), &mut rt.stdout())
+fn replay_stdin(rt: &HostRuntime) -> ExitCode {
+    ended(rt, replay_log(&mut rt.stdin(), &mut rt.stdout()))
 }
 
-// A dash alone is standard input.
-fn replay_named(rt: &HostRuntime, name: String) -> Result<(), Failure> {
-    if name.as_str() == "-" {
-        return replay_stdin(rt);
-    }
-    match open_log(rt, name.as_str()) {
-        Ok(mut file) => replay_log(&mut file, &mut rt.stdout()),
-        Err(error) => Err(Failure::Open(name, error)),
-    }
-}
-
-fn is_option(word: &str) -> bool {
-    word.len() > 1 && word.as_bytes()[0] == b'-'
-}
-
-fn run(rt: &HostRuntime) -> Result<(), Failure> {
-    let mut words = std::env::args(rt).map_err(Failure::Argument)?;
-    let _program = words.next();
-    let Some(mut first) = words.next() else {
-        return replay_stdin(rt);
-    };
-    if first.as_str() == "--help" {
-        return show_help(rt);
-    }
-    if first.as_str() == "--" {
-        // What follows the two dashes that end the options.
-        let Some(name) = words.next() else {
-            return replay_stdin(rt);
-        };
-        first = name;
-    } else if is_option(first.as_str()) {
-        show_usage(rt);
-        return Ok(());
-    }
-    if words.next().is_some() {
-        show_usage(rt);
-        return Ok(());
-    }
-    replay_named(rt, first)
-}
-
-fn main(rt: HostRuntime) -> ExitCode {
-    match run(&rt) {
+fn ended(rt: &HostRuntime, outcome: Result<(), Failure>) -> ExitCode {
+    match outcome {
         Ok(()) => ExitCode::SUCCESS,
         Err(failure) => {
             let _ = eprintln!(rt; "{failure}");
             ExitCode::FAILURE
         }
+    }
+}
+
+// A word of the command line by its number, read into room; none where there are not so many.
+fn word_at<'a>(
+    rt: &HostRuntime,
+    number: usize,
+    room: &'a mut [u8],
+) -> Result<Option<&'a [u8]>, Failure> {
+    match rt.arg(number, room) {
+        Ok(size) => Ok(Some(&room[..size])),
+        Err(FillError::NotPresent) => Ok(None),
+        Err(FillError::TooLong) => {
+            Err(Failure::Argument(io::Error::from_raw_os_error(ENAMETOOLONG)))
+        }
+    }
+}
+
+fn has_word(rt: &HostRuntime, number: usize) -> bool {
+    !matches!(rt.arg(number, &mut [0u8; 0]), Err(FillError::NotPresent))
+}
+
+fn replay_file(rt: &HostRuntime, name: &str) -> ExitCode {
+    match open_log(rt, name) {
+        Ok(mut file) => ended(rt, replay_log(&mut file, &mut rt.stdout())),
+        Err(error) => {
+            let _ = eprintln!(rt; "{name}: {error}");
+            ExitCode::FAILURE
+        }
+    }
+}
+
+// A dash alone is standard input.
+fn replay_named(rt: &HostRuntime, word: &[u8]) -> ExitCode {
+    if word == b"-".as_slice() {
+        return replay_stdin(rt);
+    }
+    match std::str::from_utf8(word) {
+        Ok(name) => replay_file(rt, name),
+        Err(_) => ended(
+            rt,
+            Err(Failure::Argument(io::Error::from(io::ErrorKind::InvalidData))),
+        ),
+    }
+}
+
+// What follows the two dashes that end the options.
+fn replay_operand(rt: &HostRuntime) -> ExitCode {
+    if has_word(rt, 3) {
+        return show_usage(rt);
+    }
+    let mut room = [0u8; WORD_SIZE];
+    match word_at(rt, 2, &mut room) {
+        Ok(None) => replay_stdin(rt),
+        Ok(Some(word)) => replay_named(rt, word),
+        Err(failure) => ended(rt, Err(failure)),
+    }
+}
+
+fn is_option(word: &[u8]) -> bool {
+    word.len() > 1 && word[0] == b'-'
+}
+
+fn replay_by(rt: &HostRuntime, first: &[u8]) -> ExitCode {
+    if first == b"--help".as_slice() {
+        return ended(rt, show_help(rt));
+    }
+    if first == b"--".as_slice() {
+        return replay_operand(rt);
+    }
+    if is_option(first) || has_word(rt, 2) {
+        return show_usage(rt);
+    }
+    replay_named(rt, first)
+}
+
+fn main(rt: HostRuntime) -> ExitCode {
+    let mut room = [0u8; WORD_SIZE];
+    match word_at(&rt, 1, &mut room) {
+        Ok(None) => replay_stdin(&rt),
+        Ok(Some(first)) => replay_by(&rt, first),
+        Err(failure) => ended(&rt, Err(failure)),
     }
 }
