@@ -85,7 +85,7 @@ uninstall:
 	rm -f $(DESTDIR)$(PREFIX)/lib/lib$(LIBRARY).a $(DESTDIR)$(PREFIX)/lib/pkgconfig/mcp2515.pc
 
 check:
-	@echo "== the whole gate, .ci/run: 25 to 45 minutes (build/check.log has all that it says)"
+	@echo "== the whole gate, .ci/run: 4 minutes where all was proved here before, else some 25 (build/check.log has all that it says)"
 	@.ci/progress build/check.log .ci/run
 
 clean:
@@ -99,7 +99,7 @@ help:
 	@echo "make examples   build and run examples/*.c"
 	@echo "make tool-check the tool against the replay program"
 	@echo "make install PREFIX=$(PREFIX) DESTDIR=    tool, header, archive, pkg-config file; make uninstall"
-	@echo "make check      the whole gate: tests, proofs from nothing, must-fail edits (25 to 45 minutes)"
+	@echo "make check      the whole gate: tests, proofs, must-fail edits (4 to some 25 minutes)"
 	@echo "make clean      remove what was built"
 	@echo "ARCHIVE=.. takes another archive, REPLAY=.. another replay program"
 	@echo "make -C bench check | compare | live | pairs | timing | loader | same | header | speed | stack | mutate    the C side alone; see bench/Makefile"
