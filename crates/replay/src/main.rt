@@ -175,6 +175,7 @@ fn show_help(rt: &HostRuntime) -> Result<(), Failure> {
     )
 }
 
+// The answer to words that are wrong, which end with status 0.
 fn show_usage(rt: &HostRuntime) -> ExitCode {
     let _ = eprintln!(rt; "{USAGE}");
     ExitCode::SUCCESS
@@ -184,6 +185,7 @@ fn replay_stdin(rt: &HostRuntime) -> ExitCode {
     ended(rt, replay_log(&mut rt.stdin(), &mut rt.stdout()))
 }
 
+// Says what ended a replay early, if anything did. The status of the program.
 fn ended(rt: &HostRuntime, outcome: Result<(), Failure>) -> ExitCode {
     match outcome {
         Ok(()) => ExitCode::SUCCESS,
