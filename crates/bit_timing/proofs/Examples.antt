@@ -10,7 +10,7 @@ use Rattle.bits.proofs.All.{from, every}
 use Rattle.bit_timing.specs.Timing.{plan_refusal, difference_of, Planning}
 use Rattle.bit_timing.specs.TimingCases.{PlansHold}
 use Rattle.bit_timing.specs.Pairs.{pairs, size_at, IsFirstLeast}
-use Rattle.bit_timing.specs.declared.Planned.TheVariants.{None, Found}
+use Rattle.std.specs.Prelude.{Some, None, Ok}
 use Rattle.bit_timing.proofs.Best.{setting_of, best, none}
 use Rattle.bit_timing.proofs.Plans.{planning}
 
@@ -36,10 +36,10 @@ module _ (oscillator rate n : ℕ) (allowed : plan_refusal oscillator rate ≡ 0
   nearest : IsFirstLeast (size_at oscillator rate) pairs n
   nearest = first_by_test (size_at oscillator rate) n (lit< inside) tested
 
-  found_at : T (leb (size_at oscillator rate n * 1000) oscillator) → Planning oscillator rate (Found (setting_of n) (difference_of oscillator rate (setting_of n)))
+  found_at : T (leb (size_at oscillator rate n * 1000) oscillator) → Planning oscillator rate (Ok (Some (record { setting = setting_of n; difference = difference_of oscillator rate (setting_of n) })))
   found_at near = planning oscillator rate _ (allowed, best oscillator rate n nearest (lit≤ near), refl)
 
-  none_at : T (ltb oscillator (size_at oscillator rate n * 1000)) → Planning oscillator rate None
+  none_at : T (ltb oscillator (size_at oscillator rate n * 1000)) → Planning oscillator rate (Ok None)
   none_at far = planning oscillator rate _ (allowed, none oscillator rate n nearest (lit< far))
 
 pub plans_hold : PlansHold
@@ -57,9 +57,9 @@ plans_hold = (
           (
             none_at 14745600 125000 48 refl tt tt tt,
             (
-              planning 999999 4999 _ (lit< tt, refl),
+              planning 999999 4999 _ refl,
               (
-                planning 1000000 4999 _ (lit< tt, refl),
+                planning 1000000 4999 _ refl,
                 tt,
               ),
             ),

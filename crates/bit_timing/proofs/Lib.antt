@@ -1,4 +1,3 @@
-pub mod Differences
 pub mod Least
 pub mod Broken
 pub mod Ranks

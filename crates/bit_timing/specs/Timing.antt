@@ -1,11 +1,12 @@
 -- Bit timing: the fields of CNF1 to CNF3, which settings are sound, how far one is off a bit rate, and which one is planned. A setting
 -- is three numbers; its fields are remainders, so that what is said of all settings is said of all 2^24 triples of bytes, and of more.
 -- Assumes nothing: these are definitions.
-use Rattle.std.specs.Prelude.{◌≡◌, Bool, true, false, cond, not, ◌&&◌, ◌||◌, List, [], ◌∷◌, ℕ, ◌+◌, ◌*◌, ◌/◌, ◌%◌, ◌<◌, eqb, leb, ltb, ℤ, pos, ◌-ℤ◌, nat_abs}
+use Rattle.std.specs.Prelude.{◌≡◌, Bool, true, false, cond, not, ◌&&◌, ◌||◌, List, [], ◌∷◌, ℕ, ◌+◌, ◌*◌, ◌/◌, ◌%◌, eqb, leb, ltb, ℤ, pos, ◌-ℤ◌, nat_abs, Option, Some, None, Result, Ok, Err}
 use Rattle.bits.specs.Bit.{has_bit}
 use Rattle.bit_timing.specs.declared.Setting.{Setting}
+use Rattle.records.specs.declared.Refusal.{Refusal}
+use Rattle.records.specs.Records.{refusal_number}
 use Rattle.bit_timing.specs.declared.Planned.{Planned}
-use Rattle.bit_timing.specs.declared.Planned.TheVariants.{Refused, None, Found}
 
 -- CNF1, CNF2, CNF3
 abbrev pub setting_by : ℕ → ℕ → ℕ → Setting
@@ -147,13 +148,13 @@ plan_refusal oscillator rate =
     cond (is_inside 1000000 40000000 oscillator) (cond (is_inside 5000 1000000 rate) 0 rate_refusal) oscillator_refusal
 
 -- an answer: the refusal; or none; or the best setting, with its difference
-abbrev pub IsPlan : ℕ → ℕ → Planned → Type 0
-IsPlan oscillator rate (Refused n) = (0 < n) × (n ≡ plan_refusal oscillator rate)
-IsPlan oscillator rate None = (plan_refusal oscillator rate ≡ 0) × NoneWithin oscillator rate
-IsPlan oscillator rate (Found s difference) =
-    (plan_refusal oscillator rate ≡ 0) × IsBest oscillator rate s × (difference ≡ difference_of oscillator rate s)
+abbrev pub IsPlan : ℕ → ℕ → Result (Option Planned) Refusal → Type 0
+IsPlan oscillator rate (Err refusal) = refusal_number refusal ≡ plan_refusal oscillator rate
+IsPlan oscillator rate (Ok None) = (plan_refusal oscillator rate ≡ 0) × NoneWithin oscillator rate
+IsPlan oscillator rate (Ok (Some plan)) =
+    (plan_refusal oscillator rate ≡ 0) × IsBest oscillator rate plan.setting × (plan.difference ≡ difference_of oscillator rate plan.setting)
 
 -- what the planner promises of its answer, which the rules fix: there is no other
-pub record Planning (oscillator rate : ℕ) (p : Planned) : Type 0 where
+pub record Planning (oscillator rate : ℕ) (p : Result (Option Planned) Refusal) : Type 0 where
   pub answer : IsPlan oscillator rate p
-  pub only : (other : Planned) → IsPlan oscillator rate other → other ≡ p
+  pub only : (other : Result (Option Planned) Refusal) → IsPlan oscillator rate other → other ≡ p

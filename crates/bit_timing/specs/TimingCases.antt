@@ -1,16 +1,17 @@
 -- Plans as a table, and one claim over it, which the proofs compute.
-use Rattle.std.specs.Prelude.{List, [], ◌∷◌, ℕ, ℤ, pos, neg_ℤ}
+use Rattle.std.specs.Prelude.{List, [], ◌∷◌, ℕ, ℤ, pos, neg_ℤ, Option, Some, None, Result, Ok, Err}
+use Rattle.records.specs.declared.Refusal.{Refusal}
+use Rattle.records.specs.declared.Refusal.TheVariants.{Oscillator, Rate}
 use Rattle.bit_timing.specs.declared.Planned.{Planned}
-use Rattle.bit_timing.specs.declared.Planned.TheVariants.{Refused, None, Found}
 use Rattle.bit_timing.specs.Timing.{setting_by, Planning}
 
 -- oscillator, rate, and what is planned
 abbrev pub Row : Type 0
-Row = ℕ × ℕ × Planned
+Row = ℕ × ℕ × Result (Option Planned) Refusal
 
 -- a setting by its three bytes, with its difference
-abbrev pub found : ℕ → ℕ → ℕ → ℤ → Planned
-found cnf1 cnf2 cnf3 difference = Found (setting_by cnf1 cnf2 cnf3) difference
+abbrev pub found : ℕ → ℕ → ℕ → ℤ → Result (Option Planned) Refusal
+found cnf1 cnf2 cnf3 difference = Ok (Some (record { setting = setting_by cnf1 cnf2 cnf3; difference = difference }))
 
 abbrev pub table : List Row
 table =
@@ -21,12 +22,12 @@ table =
     ∷ (12000000, 95239, found 0x02 0x9F 0x07 (neg_ℤ (pos 114)))
     -- a thousandth of the oscillator is near enough, and no more
     ∷ (16000000, 499500, found 0x00 0x86 0x06 (pos 16000))
-    ∷ (16000000, 499499, None)
+    ∷ (16000000, 499499, Ok None)
     -- an odd crystal for which no setting is near enough
-    ∷ (14745600, 125000, None)
+    ∷ (14745600, 125000, Ok None)
     -- both are out of range: the oscillator comes first
-    ∷ (999999, 4999, Refused 12)
-    ∷ (1000000, 4999, Refused 13)
+    ∷ (999999, 4999, Err Oscillator)
+    ∷ (1000000, 4999, Err Rate)
     ∷ []
 
 -- each row is planned so

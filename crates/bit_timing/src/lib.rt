@@ -22,23 +22,23 @@ ghost use Rattle.bit_timing.specs.Timing.{
   Planning,
 };
 ghost use Rattle.bit_timing.specs.Pairs.{clock_limit};
+ghost use Rattle.records.specs.Records.{refusal_in};
+
+use records::Refusal;
 
 // The three registers, as a WRITE would store them.
-#[derive(Clone, Copy)]
+#[derive(Clone, Copy, Debug, PartialEq, Eq)]
 pub struct Setting {
     pub cnf1: u8,
     pub cnf2: u8,
     pub cnf3: u8,
 }
 
-#[derive(Clone, Copy)]
-pub enum Planned {
-    // Oscillator or rate is out of range: the refusal.
-    Refused(u8),
-    // No sound setting is near enough.
-    None,
-    // The best setting, and its difference.
-    Found(Setting, i64),
+// The best setting, and its difference.
+#[derive(Clone, Copy, Debug, PartialEq, Eq)]
+pub struct Planned {
+    pub setting: Setting,
+    pub difference: i64,
 }
 
 // In CNF2.
@@ -77,51 +77,50 @@ const MOST_RATE: u32 = 1_000_000;
 // A plan may be off by one part of the oscillator in so many.
 const LIMIT: u64 = 1_000;
 
-const OSCILLATOR_REFUSAL: u8 = 12;
+// In quanta, but for the prescaler.
+impl Setting {
+    fn brp(self) -> u32
+        ensures { result ≡ brp_of self }
+    {
+        (self.cnf1 % 64) as u32
+    }
 
-const RATE_REFUSAL: u8 = 13;
+    fn sjw(self) -> u32
+        ensures { result ≡ sjw_of self }
+    {
+        (self.cnf1 / 64 % 4) as u32 + 1
+    }
 
-fn brp(setting: Setting) -> u32
-    ensures { result ≡ brp_of setting }
-{
-    (setting.cnf1 % 64) as u32
-}
+    fn prop_seg(self) -> u32
+        ensures { result ≡ prop_seg_of self }
+    {
+        (self.cnf2 % 8) as u32 + 1
+    }
 
-fn sjw(setting: Setting) -> u32
-    ensures { result ≡ sjw_of setting }
-{
-    (setting.cnf1 / 64 % 4) as u32 + 1
-}
+    fn ps1(self) -> u32
+        ensures { result ≡ ps1_of self }
+    {
+        (self.cnf2 / 8 % 8) as u32 + 1
+    }
 
-fn prop_seg(setting: Setting) -> u32
-    ensures { result ≡ prop_seg_of setting }
-{
-    (setting.cnf2 % 8) as u32 + 1
-}
+    fn ps2(self) -> u32
+        ensures { result ≡ ps2_of self }
+    {
+        (self.cnf3 % 8) as u32 + 1
+    }
 
-fn ps1(setting: Setting) -> u32
-    ensures { result ≡ ps1_of setting }
-{
-    (setting.cnf2 / 8 % 8) as u32 + 1
-}
-
-fn ps2(setting: Setting) -> u32
-    ensures { result ≡ ps2_of setting }
-{
-    (setting.cnf3 % 8) as u32 + 1
-}
-
-// Of a bit, with the sync quantum.
-fn quanta(setting: Setting) -> u32
-    ensures { result ≡ quanta_of setting }
-{
-    1 + prop_seg(setting) + ps1(setting) + ps2(setting)
+    // Of a bit, with the sync quantum.
+    fn quanta(self) -> u32
+        ensures { result ≡ quanta_of self }
+    {
+        1 + self.prop_seg() + self.ps1() + self.ps2()
+    }
 }
 
 fn is_inside(least: u32, most: u32, number: u32) -> bool
     ensures { result ≡ is_inside least most number }
 {
-    (least <= number) & (number <= most)
+    (least..=most).contains(&number)
 }
 
 // The bit of a rule, 0 where it is kept.
@@ -132,23 +131,25 @@ fn fault(kept: bool, bit: u32) -> u32
 }
 
 // The rules that are broken, a bit for each.
+#[tactic(auto, unfolding(crate::specs::Timing::faults_of))]
 pub fn faults(setting: Setting) -> u32
     ensures { result ≡ faults_of setting }
 {
-    let ps2 = ps2(setting);
-    let before = prop_seg(setting) + ps1(setting);
+    let ps2 = setting.ps2();
+    let before = setting.prop_seg() + setting.ps1();
     fault(setting.cnf2 / BTLMODE % 2 == 1, BTLMODE_FAULT)
         + fault(setting.cnf3 / 8 % 8 == 0, SPARE_FAULT)
         + fault(LEAST_PS2 <= ps2, PS2_FAULT)
         + fault(ps2 <= before, PROPSEG_PS1_FAULT)
-        + fault(sjw(setting) < ps2, SJW_FAULT)
+        + fault(setting.sjw() < ps2, SJW_FAULT)
         + fault(
-            is_inside(LEAST_QUANTA, MOST_QUANTA, quanta(setting)),
+            is_inside(LEAST_QUANTA, MOST_QUANTA, setting.quanta()),
             QUANTA_FAULT,
         )
 }
 
 // Whether every rule is kept, whoever proposed the setting.
+#[tactic(auto, using(crate::proofs::Broken::sound_has_no_faults))]
 pub fn check(setting: Setting) -> bool
     ensures { (result ≡ is_sound setting) × SoundHasNoFaults }
 {
@@ -164,39 +165,41 @@ fn clocks(rate: u32, brp: u32, quanta: u32) -> u64
 }
 
 // Oscillator less what the rate would need, with its sign; of any setting, sound or not.
+#[tactic(auto, unfolding(crate::specs::Timing::difference_of))]
 pub fn difference(oscillator: u32, rate: u32, setting: Setting) -> i64
     ensures { result ≡ difference_of oscillator rate setting }
 {
-    let clocks = clocks(rate, brp(setting), quanta(setting));
+    let clocks = clocks(rate, setting.brp(), setting.quanta());
     oscillator as i64 - clocks as i64
 }
 
-// Why there is no plan; 0 where there may be one.
-fn refusal(oscillator: u32, rate: u32) -> u8
-    ensures { result ≡ plan_refusal oscillator rate }
+// Whether a plan is asked for what a chip and a bus can have.
+#[tactic(auto, unfolding(crate::specs::Timing::plan_refusal))]
+fn check_ranges(oscillator: u32, rate: u32) -> Result<(), Refusal>
+    ensures { refusal_in result ≡ plan_refusal oscillator rate }
 {
     if !is_inside(LEAST_OSCILLATOR, MOST_OSCILLATOR, oscillator) {
-        return OSCILLATOR_REFUSAL;
+        return Err(Refusal::Oscillator);
     }
     if !is_inside(LEAST_RATE, MOST_RATE, rate) {
-        return RATE_REFUSAL;
+        return Err(Refusal::Rate);
     }
-    0
+    Ok(())
 }
 
-// The best setting for an oscillator in Hz and a rate in bits a second.
-pub fn plan(oscillator: u32, rate: u32) -> Planned
+// The best setting for an oscillator in Hz and a rate in bits a second; none where no sound setting is near enough.
+pub fn plan(oscillator: u32, rate: u32) -> Result<Option<Planned>, Refusal>
     ensures { Planning oscillator rate result }
 {
-    let refusal = refusal(oscillator, rate);
-    if refusal > 0 {
-        return Planned::Refused(refusal);
-    }
+    check_ranges(oscillator, rate)?;
     let pair = pairs::nearest(oscillator, rate);
     if pairs::size(oscillator, rate, pair) * LIMIT <= oscillator as u64 {
         let setting = pairs::setting(pair);
         let difference = difference(oscillator, rate, setting);
-        return Planned::Found(setting, difference);
+        return Ok(Some(Planned {
+            setting,
+            difference,
+        }));
     }
-    Planned::None
+    Ok(None)
 }

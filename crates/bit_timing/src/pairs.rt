@@ -36,12 +36,7 @@ pub fn size(oscillator: u32, rate: u32, pair: u32) -> u64
     ensures { (result ≡ size_at oscillator rate pair) × (result < clock_limit) }
 {
     let clocks = crate::clocks(rate, pair / LENGTHS, quanta(pair));
-    let oscillator = oscillator as u64;
-    if clocks <= oscillator {
-        oscillator - clocks
-    } else {
-        clocks - oscillator
-    }
+    clocks.abs_diff(oscillator as u64)
 }
 
 // The first pair with the least size.
@@ -50,14 +45,12 @@ pub fn nearest(oscillator: u32, rate: u32) -> u32
 {
     let mut first = 0;
     let mut least = size(oscillator, rate, 0);
-    let mut pair = 1;
-    while pair < PAIRS {
+    for pair in 1..PAIRS {
         let next = size(oscillator, rate, pair);
         if next < least {
             first = pair;
             least = next;
         }
-        pair += 1;
     }
     first
 }
@@ -66,11 +59,7 @@ pub fn nearest(oscillator: u32, rate: u32) -> u32
 fn shared(quanta: u32) -> u32
     ensures { result ≡ shared_quanta quanta }
 {
-    if quanta < MOST_SHARED {
-        quanta
-    } else {
-        MOST_SHARED
-    }
+    quanta.min(MOST_SHARED)
 }
 
 // The lowest bytes of a pair.

@@ -8,14 +8,14 @@ ghost use Rattle.bits.specs.Bit.{has_bit, power_of, set_bit, merged, written};
 pub fn has(x: u8, k: u8) -> bool
     ensures { result ≡ has_bit x k }
 {
-    if k < 8 { (x >> k) & 1 == 1 } else { false }
+    k < 8 && (x >> k) & 1 == 1
 }
 
 // The byte with bit k alone, 0 from 8 on.
 pub fn power(k: u8) -> u8
     ensures { result ≡ power_of k }
 {
-    if k < 8 { 1 << k } else { 0 }
+    1u8.checked_shl(k as u32).unwrap_or(0)
 }
 
 pub fn set(x: u8, k: u8) -> u8

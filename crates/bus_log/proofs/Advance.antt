@@ -6,22 +6,21 @@ use Prim.Native.Nat.{ℕ}
 use native.Mathlib.Omega.{arith}
 use borrow.Author.Tests.{eqb-false, ne_eqb, not-true}
 use lib.Dec.{eqb}
-use lib.ListN.{length, get_or, drop}
+use lib.ListN.{length, get_or, drop, length-drop}
 use lib.Seq.{sets}
 use Rattle.records.specs.declared.Fields.{Fields}
 use Rattle.records.specs.declared.Outcome.{Outcome}
 use Rattle.records.specs.Records.{record_of}
-use Rattle.image.specs.Image.{image_size, Answered}
+use Rattle.image.specs.Image.{image_size}
+use Rattle.mcp2515.specs.declared.Chip.{Chip}
 use Rattle.mcp2515.specs.declared.Stepped.{Stepped}
 use Rattle.mcp2515.specs.Step.{step_of, outcome, next_chip}
-use Rattle.mcp2515.specs.ChipImage.{wanted_outcome, chip_of, Moved, Advanced}
-use Rattle.bus_log.specs.Log.{record_size, steps_of, last_chip, all_refused, RefusedStay, answer_bytes, answers_of}
-use Rattle.bus_log.specs.From.{RecordRun}
+use Rattle.mcp2515.specs.ChipImage.{wanted_outcome, chip_of, Moved}
+use Rattle.bus_log.specs.Log.{record_size, steps_in, all_refused, answer_bytes, answers_of}
 use Rattle.bus_log.proofs.Steps.{one_step}
 
 -- the image n after the record r, and what o tells of it
 pub record Ran (m n r : List ℕ) (wanted : Bool) (o : Outcome) : Type 0 where
-  pub size : length n ≡ image_size
   pub after : chip_of n ≡ (step_of (chip_of m) r).chip
   pub spare : drop 150 n ≡ drop 150 m
   pub refusal : o.refusal ≡ (step_of (chip_of m) r).refusal
@@ -32,19 +31,20 @@ wanted_bytes : (wanted : Bool) (o : Outcome) → answer_bytes wanted (wanted_out
 wanted_bytes true o = refl
 wanted_bytes false o = refl
 
-pub ran : (m n : List ℕ) (f : Fields) (r : List ℕ) (wanted : Bool) (o x : Outcome) → length m ≡ image_size → record_of f ≡ r
-    → Answered m o (wanted_outcome wanted (outcome (chip_of m) (record_of f))) x → Advanced m n (next_chip (chip_of m) (record_of f))
-    → Ran m n r wanted o
-ran m n f r wanted o x e p a v =
-    let w = v.image e in
+pub ran : (m n : List ℕ) (f : Fields) (r : List ℕ) (wanted : Bool) (o : Outcome) → record_of f ≡ r
+    → o ≡ wanted_outcome wanted (outcome (chip_of m) (record_of f)) → Moved m n (next_chip (chip_of m) (record_of f)) → Ran m n r wanted o
+ran m n f r wanted o p e w =
     subst (λ (l : List ℕ). Ran m n l wanted o) p
     (record {
-      size = w.packed.size;
       after = w.packed.chip;
       spare = w.spare;
-      refusal = ap (λ (y : Outcome). y.refusal) (a.image e);
-      bytes = ap (answer_bytes wanted) (a.image e) ∙ wanted_bytes wanted (outcome (chip_of m) (record_of f));
+      refusal = ap (λ (y : Outcome). y.refusal) e;
+      bytes = ap (answer_bytes wanted) e ∙ wanted_bytes wanted (outcome (chip_of m) (record_of f));
     })
+
+-- an image with its spare bytes as they were is an image
+pub same_size : (m n : List ℕ) → length m ≡ image_size → drop 150 n ≡ drop 150 m → length n ≡ image_size
+same_size m n e spare = omega (arith, length-drop 150 m, length-drop 150 n, ap (λ (l : List ℕ). length l) spare)
 
 both : (a b : Bool) → a && b ≡ true → (a ≡ true) × (b ≡ true)
 both true b e = (refl, e)
@@ -65,16 +65,7 @@ one_refused s h = rw (ne_eqb s.refusal 0 h)
 abbrev told_by : List ℕ → Outcome
 told_by l = record { refusal = get_or l 0 0; answer = get_or l 1 0; matched = get_or l 2 0 }
 
-pub record_ran : (m r n told : List ℕ) → length m ≡ image_size → length r ≡ record_size
-    → told ≡ sets (0 ∷ 0 ∷ 0 ∷ []) 0 (answers_of true (steps_of 1 (chip_of m) r)) → Moved m n (last_chip (chip_of m) (steps_of 1 (chip_of m) r))
-    → RefusedStay (steps_of 1 (chip_of m) r) m n → RecordRun m r (told_by told) n
-unfolding answers_of last_chip
-record_ran m r n told size whole stored moved stay =
-    let one = one_step (chip_of m) r whole in
-    let same : told_by told ≡ outcome (chip_of m) r = ap told_by (rw one at stored) in
-    record {
-      told = λ _ _. same;
-      moved = λ _ _. rw one at moved;
-      other = λ h. absurd (h (size, whole));
-      kept = λ h. stay (rw one (one_refused (step_of (chip_of m) r) (λ z. h (ap (λ (o : Outcome). o.refusal) same ∙ z))));
-    }
+pub told_one : (c : Chip) (r told : List ℕ) → length r ≡ record_size → told ≡ sets (0 ∷ 0 ∷ 0 ∷ []) 0 (answers_of true (steps_in c r))
+    → told_by told ≡ outcome c r
+unfolding answers_of
+told_one c r told whole stored = ap told_by (rw (one_step c r whole) at stored)

@@ -2,7 +2,7 @@
 use mathlib.Core.Path.{◌≡◌, refl, ◌∙◌}
 use mathlib.Core.Bool.{Bool, true, false}
 use mathlib.Core.List.{List, [], ◌∷◌, ◌++◌}
-use Prim.Native.Nat.{ℕ, suc, ◌+◌, ◌*◌, ◌-◌, ◌<◌, ◌≤◌}
+use Prim.Native.Nat.{ℕ, suc, ◌+◌, ◌*◌, ◌≤◌}
 use native.Mathlib.Omega.{arith}
 use lib.ListN.{length, drop, length-append}
 use lib.Seq.{sets}
@@ -25,9 +25,9 @@ pub room_next : (wanted : Bool) (n : ℕ) → answer_room wanted (suc n) ≡ ans
 room_next true n = omega arith
 room_next false n = omega arith
 
-pub room_less : (wanted : Bool) (n : ℕ) → 0 < n → answer_room wanted n ≡ answer_size wanted + answer_room wanted (n - 1)
-room_less true n h = omega arith
-room_less false n h = omega arith
+pub room_more : (wanted : Bool) (n : ℕ) → answer_room wanted (n + 1) ≡ answer_room wanted n + answer_size wanted
+room_more true n = omega arith
+room_more false n = omega arith
 
 -- the least and the most that an answer takes
 pub size_least : (wanted : Bool) → 2 ≤ answer_size wanted

@@ -2,7 +2,6 @@ pub mod Copy
 pub mod Steps
 pub mod Answers
 pub mod Refusals
-pub mod Negative
 pub mod Advance
 pub mod Helds
 pub mod Parts

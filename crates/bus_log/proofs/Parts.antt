@@ -1,9 +1,11 @@
 -- The laws of a run from a chip that a C program holds. Assumes nothing.
-use mathlib.Core.Path.{◌≡◌, refl, sym, ap}
+use mathlib.Core.Path.{◌≡◌, refl, sym, ap, ◌∙◌}
 use mathlib.Core.Bool.{Bool}
 use mathlib.Core.List.{List, [], ◌∷◌, ◌++◌, append_assoc, append-nil}
-use Prim.Native.Nat.{ℕ, zero, suc, ◌+◌, ◌*◌, ◌≤◌}
+use Prim.Native.Nat.{ℕ, zero, suc, ◌+◌, ◌*◌, ◌≤◌, ◌<◌}
 use native.Mathlib.Omega.{arith}
+use borrow.Author.Tests.{lt-ltb}
+use lib.IntN.{ℤ, pos, neg_ℤ}
 use lib.ListN.{length, take, drop, length-append, length-drop, drop_of_length-le}
 use lib.Seq.{length-take-le, drop-drop}
 use Rattle.mcp2515.specs.declared.Chip.{Chip}
@@ -14,11 +16,11 @@ use Rattle.mcp2515.proofs.Images.{power_on_chip, power_on_is_chip}
 use Rattle.bus_log.specs.Log.{record_size, records_in, steps_of, last_chip, answer_bytes, answers_of}
 use Rattle.bus_log.specs.Run.{answer_room, run_refusal, run_result, run_answers}
 use Rattle.bus_log.specs.Held.{held_refusal}
-use Rattle.bus_log.specs.From.{from_refusal, from_result, from_answers, FromPowerOn, RunsJoin, records_of, told_bytes, RecordByRecord}
+use Rattle.bus_log.specs.From.{from_refusal, from_result, from_answers, FromPowerOn, RunsJoin, RunningFrom, records_of, told_bytes, RecordByRecord}
 use Rattle.bus_log.proofs.Steps.{steps_append, chip_append}
 use Rattle.bus_log.proofs.Answers.{room_sum}
 use Rattle.bus_log.proofs.Refusals.{accepted, accepts}
-use Rattle.bus_log.proofs.Helds.{held_both, held_none}
+use Rattle.bus_log.proofs.Helds.{held_both, held_none, held_kept}
 
 pub from_power_on : FromPowerOn
 unfolding held_refusal from_result from_answers run_result run_answers
@@ -81,4 +83,20 @@ runs_join wanted m n a b answers cut whole held =
       second = second;
       joined = rw (answers_run wanted m (a ++ b) answers whole, answers_run wanted m a (take (answer_room wanted i) answers) first, answers_run wanted n b (drop (answer_room wanted i) answers) second, count, held.chip refl) (join_answers wanted i j (chip_of m) a b answers size room);
       end = rw (count, held.chip refl) (join_chip wanted i j (chip_of m) a b answers size);
+    }
+
+-- ---- a call that is refused with the number n
+pub refused_from : (wanted : Bool) (m log answers : List ℕ) (n : ℕ) (r : ℤ) → from_refusal wanted m log answers ≡ n → 0 < n → r ≡ neg_ℤ (pos n)
+    → RunningFrom wanted m log answers m answers r
+unfolding from_result from_answers
+refused_from wanted m log answers n r same some told =
+    let t = lt-ltb 0 n some in
+    record {
+      result = told ∙ rw (same, t);
+      buffer = rw (same, t);
+      chip = held_kept (λ z. let none : n ≡ 0 = sym same ∙ z in omega arith);
+      kept = λ _. refl;
+      power_on = from_power_on;
+      join = runs_join;
+      singly = record_by_record;
     }

@@ -1,10 +1,17 @@
 -- What the refusal of a run says of its sizes. Assumes nothing.
-use mathlib.Core.Path.{◌≡◌, refl}
+use mathlib.Core.Path.{◌≡◌, refl, ap, sym, ◌∙◌}
 use mathlib.Core.Bool.{Bool, true, false, cond}
 use Prim.Native.Nat.{ℕ, zero, suc, ◌%◌, ◌≤◌}
 use native.Mathlib.Omega.{arith}
 use borrow.Author.Tests.{ltb-false, lt-ltb, le-ltb}
 use lib.Dec.{ltb}
+use lib.IntN.{ℤ, pos, neg_ℤ}
+use mir.Syntax.{w64}
+use mir.Val.{SFits, to_z, of_z}
+use mir.Facts.{to_z-of_z}
+use Rattle.records.specs.declared.Refusal.{Refusal}
+use Rattle.records.specs.Records.{refusal_number}
+use Rattle.records.proofs.Refusals.{number_some}
 use Rattle.bus_log.specs.Log.{record_size, max_records, length_refusal, room_refusal, count_refusal, records_in, log_refusal, first_refusal}
 use Rattle.bus_log.specs.Run.{answer_room, run_refusal}
 
@@ -60,3 +67,16 @@ pub accepts : (wanted : Bool) (size bytes : ℕ) → Accepted wanted size bytes 
 unfolding run_refusal
 accepts wanted size bytes a =
     rw (takes size (record { whole = a.whole; count = a.count }), le-ltb bytes (answer_room wanted (records_in size)) a.room)
+
+-- the first of two refusals comes first
+pub first_of : (a b : ℕ) → (a ≡ 0 → ⊥) → first_refusal a b ≡ a
+first_of a b some = rw (lt-ltb 0 a (omega (arith, some)))
+
+-- so a log that is refused by itself is refused so, whatever the room
+pub log_first : (wanted : Bool) (size room : ℕ) (e : Refusal) → refusal_number e ≡ log_refusal size → refusal_number e ≡ run_refusal wanted size room
+unfolding run_refusal
+log_first wanted size room e h = h ∙ sym (first_of (log_refusal size) _ (λ z. number_some e (h ∙ z)))
+
+-- minus the number n of a refusal, told as `i64`
+pub minus_told : {r : ℤ} {k n : ℕ} → SFits w64 r → r ≡ neg_ℤ (pos k) → k ≡ n → to_z w64 (of_z w64 r) ≡ neg_ℤ (pos n)
+minus_told fits e h = to_z-of_z {w = w64} fits ∙ e ∙ ap (λ (n : ℕ). neg_ℤ (pos n)) h

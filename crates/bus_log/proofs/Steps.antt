@@ -1,36 +1,43 @@
 -- Laws of a log's steps. Assumes nothing.
-use mathlib.Core.Path.{◌≡◌, refl, ap}
+use mathlib.Core.Path.{◌≡◌, refl, ap, ◌∙◌}
 use mathlib.Core.List.{List, [], ◌∷◌, ◌++◌}
 use Prim.Native.Nat.{ℕ, zero, suc, ◌+◌, ◌*◌, ◌-◌, ◌<◌, ◌≤◌}
 use native.Mathlib.Omega.{arith}
-use lib.ListN.{length, take, drop, length-drop}
+use lib.ListN.{length, get_or, take, drop, length-drop}
 use lib.Seq.{drop-drop, take_all, take-append-le, drop-append-le}
+use Rattle.std.specs.Simd.{first_chunks}
 use Rattle.mcp2515.specs.declared.Chip.{Chip}
 use Rattle.mcp2515.specs.declared.Stepped.{Stepped}
 use Rattle.mcp2515.specs.Step.{step_of}
-use Rattle.bus_log.specs.Log.{record_size, record_at, steps_of, last_chip}
+use Rattle.bus_log.specs.Log.{record_size, steps_of, steps_in, last_chip}
 
--- the steps from a place on: that of the record there, and those from the next place on
-pub next_step : (left : ℕ) (c : Chip) (log : List ℕ) (at : ℕ) → 0 < left → at + left * record_size ≤ length log
-    → steps_of left c (drop at log)
-    ≡ step_of c (record_at log at) ∷ steps_of (left - 1) (step_of c (record_at log at)).chip (drop (at + record_size) log)
+-- record i of the records of a log
+pub chunk_at : (n i : ℕ) (log : List ℕ) → i < n → get_or (first_chunks record_size n log) i [] ≡ take record_size (drop (record_size * i) log)
+chunk_at zero i log h = absurd (omega arith)
+chunk_at (suc n) zero log h = refl
+chunk_at (suc n) (suc i) log h =
+    let e : record_size * suc i ≡ record_size + record_size * i = omega arith in
+    chunk_at n i (drop record_size log) (omega arith) ∙ rw (e, drop-drop (record_size * i) record_size log)
+
+-- the steps from record i on: its own, and those from the next one on
+pub steps_from : (n i : ℕ) (c : Chip) (log : List ℕ) → i < n
+    → steps_of (n - i) c (drop (record_size * i) log)
+    ≡ step_of c (take record_size (drop (record_size * i) log)) ∷ steps_of (n - (i + 1)) (step_of c (take record_size (drop (record_size * i) log))).chip (drop (record_size * (i + 1)) log)
 unfolding steps_of
-next_step zero c log at more fits = absurd (omega arith)
-next_step (suc n) c log at more fits =
-    let less : suc n - 1 ≡ n = omega arith in
-    simp (less, drop-drop record_size at log)
+steps_from n i c log h =
+    let e : n - i ≡ suc (n - (i + 1)) = omega arith in
+    let d : record_size * (i + 1) ≡ record_size * i + record_size = omega arith in
+    rw (e, d, ← drop-drop record_size (record_size * i) log)
+
+-- behind the last record there are none
+pub none_left : (n i : ℕ) (c : Chip) (log : List ℕ) → n ≤ i → steps_of (n - i) c log ≡ []
+unfolding steps_of
+none_left n i c log h = let e : n - i ≡ 0 = omega arith in rw e
 
 -- a log that is one record
-pub one_step : (c : Chip) (r : List ℕ) → length r ≡ record_size → steps_of 1 c r ≡ step_of c r ∷ []
+pub one_step : (c : Chip) (r : List ℕ) → length r ≡ record_size → steps_in c r ≡ step_of c r ∷ []
 unfolding steps_of
-one_step c r e = ap (λ (l : List ℕ). step_of c l ∷ []) (take_all record_size r (omega arith))
-
--- the chip after them
-pub next_chip : (left : ℕ) (c : Chip) (log : List ℕ) (at : ℕ) → 0 < left → at + left * record_size ≤ length log
-    → last_chip c (steps_of left c (drop at log))
-    ≡ last_chip (step_of c (record_at log at)).chip (steps_of (left - 1) (step_of c (record_at log at)).chip (drop (at + record_size) log))
-unfolding last_chip
-next_chip left c log at more fits = rw (next_step left c log at more fits)
+one_step c r e = rw e (ap (λ (l : List ℕ). step_of c l ∷ []) (take_all record_size r (omega arith)))
 
 pub length_steps : (n : ℕ) (c : Chip) (log : List ℕ) → length (steps_of n c log) ≡ n
 unfolding steps_of

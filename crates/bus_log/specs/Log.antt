@@ -1,5 +1,5 @@
 -- A bus log: records of 16 bytes with no header, each a step of the chip. Assumes nothing: these are definitions.
-use Rattle.std.specs.Prelude.{◌≡◌, Bool, true, cond, not, ◌&&◌, List, [], ◌∷◌, ◌++◌, ℕ, zero, suc, ◌/◌, ◌%◌, eqb, ltb, take, drop}
+use Rattle.std.specs.Prelude.{◌≡◌, Bool, true, cond, not, ◌&&◌, List, [], ◌∷◌, ◌++◌, ℕ, zero, suc, ◌/◌, ◌%◌, eqb, ltb, length, take, drop}
 use Rattle.records.specs.declared.Outcome.{Outcome}
 use Rattle.mcp2515.specs.declared.Chip.{Chip}
 use Rattle.mcp2515.specs.declared.Stepped.{Stepped}
@@ -47,6 +47,10 @@ unfoldable pub steps_of : ℕ → Chip → List ℕ → List Stepped
 steps_of zero c log = []
 steps_of (suc n) c log =
     step_of c (take record_size log) ∷ steps_of n (step_of c (take record_size log)).chip (drop record_size log)
+
+-- .. of all its records
+abbrev pub steps_in : Chip → List ℕ → List Stepped
+steps_in c log = steps_of (records_in (length log)) c log
 
 -- the chip after some steps
 unfoldable pub last_chip : Chip → List Stepped → Chip

@@ -1,22 +1,28 @@
 -- Differences in parts of two logs, by their answer bytes and over one chip; and where their entries go. Assumes nothing.
 use mathlib.Core.Path.{◌≡◌, refl, ap, ap₂, sym, ◌∙◌}
 use mathlib.Core.Bool.{Bool, true, false, cond, not, ◌&&◌}
-use mathlib.Core.List.{List, [], ◌∷◌, ◌++◌}
-use Prim.Native.Nat.{ℕ, zero, suc, ◌+◌, ◌*◌, ◌-◌, ◌^◌, ◌<◌, ◌≤◌}
+use mathlib.Core.List.{List, [], ◌∷◌, ◌++◌, append-nil}
+use Prim.Native.Nat.{ℕ, zero, suc, ◌+◌, ◌*◌, ◌-◌, ◌%◌, ◌<◌, ◌≤◌, min}
+use native.Mathlib.Numerals.{unary_clauses}
 use native.Mathlib.Omega.{arith}
-use borrow.Author.Tests.{ltb-false}
-use mir.Val.{bool_byte}
-use lib.Dec.{eqb, ltb}
-use lib.ListN.{length, take, drop, length-append}
-use lib.Seq.{sets, drop-drop}
+use lib.ListN.{length, take, drop, get_or, length-append, length-drop, take-append-drop}
+use lib.Seq.{sets, drop-drop, length-take-le, take-append-le, drop-append-le}
+use Rattle.std.specs.List.{zip, prefix_len}
+use Rattle.std.specs.Str.{bytes_eq}
+use Rattle.std.specs.Simd.{first_chunks}
 use Rattle.records.specs.declared.Outcome.{Outcome}
 use Rattle.mcp2515.specs.declared.Chip.{Chip}
 use Rattle.mcp2515.specs.Step.{outcome, next_chip}
-use Rattle.bus_log.specs.Log.{record_size, record_at, steps_of, last_chip, answers_of}
+use Rattle.bus_log.specs.Log.{record_size, records_in, record_at, steps_of, last_chip, answers_of}
+use Rattle.bus_log.specs.From.{chip_from}
 use Rattle.bus_log.proofs.Copy.{sets_append}
 use Rattle.compare.specs.Compare.{same_bytes, differs, Difference, item_if, differences_from, entry_of, entries_of, entry_room}
-use Rattle.compare.specs.Block.{told_by, told_in, differences_in, Listing, agreeing_of, OneChip}
-use Rattle.compare.proofs.Tests.{same_equal, differs_itself, told_same}
+use Rattle.compare.specs.Block.{told_by, differences_in, Listing, agreeing_of, OneChip}
+use Rattle.compare.proofs.Tests.{same_equal, differs_itself, equal_same, told_same}
+
+empty_append : (xs ys : List ℕ) → length xs ≡ 0 → xs ++ ys ≡ ys
+empty_append [] ys e = refl
+empty_append (x ∷ xs) ys e = absurd (omega arith)
 
 -- the differences by the answer bytes of both runs, whatever stands behind these
 by_answers : (n k : ℕ) (c d : Chip) (a b x y : List ℕ)
@@ -48,26 +54,38 @@ append_item : (t : Bool) (x : Difference) (ds es : List Difference) → item_if 
 append_item true x ds es = refl
 append_item false x ds es = refl
 
--- the differences of two parts: those of the first, and those of the second over the chips that the first left
-in_parts : (m n k : ℕ) (c d : Chip) (a b : List ℕ)
-    → differences_from (m + n) k c d a b
-    ≡ differences_from m k c d a b
-    ++ differences_from n (k + m) (last_chip c (steps_of m c a)) (last_chip d (steps_of m d b)) (drop (m * record_size) a) (drop (m * record_size) b)
+-- the differences of logs that are cut between two records: those of the first parts, and those of the second over the chips that the
+-- first left
+in_parts : (m n k : ℕ) (c d : Chip) (x y a b : List ℕ) → length x ≡ m * record_size → length y ≡ m * record_size
+    → differences_from (m + n) k c d (x ++ a) (y ++ b)
+    ≡ differences_from m k c d x y ++ differences_from n (k + m) (last_chip c (steps_of m c x)) (last_chip d (steps_of m d y)) a b
 unfolding differences_from steps_of last_chip
-in_parts zero n k c d a b =
+in_parts zero n k c d x y a b h i =
     let same : 0 + n ≡ n = omega arith in
     let here : k + 0 ≡ k = omega arith in
-    rw (same, here)
-in_parts (suc m) n k c d a b =
-    let r = take record_size a in
-    let s = take record_size b in
+    rw (same, here, empty_append x a (omega arith), empty_append y b (omega arith))
+in_parts (suc m) n k c d x y a b h i =
+    let r = take record_size x in
+    let s = take record_size y in
     let more : suc m + n ≡ suc (m + n) = omega arith in
     let number : suc k + m ≡ k + suc m = omega arith in
-    let place : record_size + m * record_size ≡ suc m * record_size = omega arith in
-    rw more
+    let some : record_size ≤ length x = omega arith in
+    let some_2 : record_size ≤ length y = omega arith in
+    let rest = in_parts m n (suc k) (next_chip c r) (next_chip d s) (drop record_size x) (drop record_size y) a b (rw length-drop (omega arith)) (rw length-drop (omega arith)) in
+    rw (more, take-append-le record_size x a some, take-append-le record_size y b some_2, drop-append-le record_size x a some, drop-append-le record_size y b some_2)
     (ap (λ (ds : List Difference). item_if (differs r (outcome c r) s (outcome d s)) (record { number = suc k; first = outcome c r; second = outcome d s }) ds)
-    (rw (in_parts m n (suc k) (next_chip c r) (next_chip d s) (drop record_size a) (drop record_size b), number, drop-drop (m * record_size) record_size a, drop-drop (m * record_size) record_size b, place))
+    (rest ∙ rw number)
     ∙ append_item (differs r (outcome c r) s (outcome d s)) _ _ _)
+
+-- the differences of the first records of two logs are those of logs that end behind them
+pub in_taken : (n k : ℕ) (c d : Chip) (a b : List ℕ) → n * record_size ≤ length a → n * record_size ≤ length b
+    → differences_from n k c d (take (n * record_size) a) (take (n * record_size) b) ≡ differences_from n k c d a b
+unfolding differences_from
+in_taken n k c d a b h i =
+    let size = n * record_size in
+    let more : n + 0 ≡ n = omega arith in
+    let parts = in_parts n 0 k c d (take size a) (take size b) (drop size a) (drop size b) (length-take-le size a h) (length-take-le size b i) in
+    sym (rw (more, take-append-drop size a, take-append-drop size b, append-nil) at parts)
 
 -- ---- one chip for both logs, as long as they agree
 agree_next : (n : ℕ) (a b : List ℕ) → same_bytes (take record_size a) (take record_size b) ≡ true
@@ -154,25 +172,13 @@ sets_empty [] [] i e = refl
 sets_empty [] (v ∷ vs) i e = sets_empty [] vs (suc i) e
 sets_empty (x ∷ xs) vs i e = absurd (omega arith)
 
--- a test as a number
-pub at_most_one : (t : Bool) → bool_byte t ≤ 1
-at_most_one true = omega arith
-at_most_one false = omega arith
-
-item_by : (s t : Bool) (d : Difference) (k : ℕ) (entries after : List ℕ) → ltb 0 (length entries) ≡ s
-    → after ≡ cond (s && t) (sets entries (entry_room k) (entry_of d)) entries → Listing (item_if t d []) k entries after (k + bool_byte t)
+-- an entry more, in an output that may be empty
+pub one_listed : (d : Difference) (k : ℕ) (entries after : List ℕ) → after ≡ sets entries (entry_room k) (entry_of d) → Listing (d ∷ []) k entries after (k + 1)
 unfolding entries_of
-item_by true true d k entries after p e = record { counted = refl; stored = e }
-item_by true false d k entries after p e = record { counted = refl; stored = e }
-item_by false true d k entries after p e =
-    record { counted = refl; stored = e ∙ sets_empty entries (entry_of d) (entry_room k) (omega (arith, ltb-false 0 (length entries) p)) }
-item_by false false d k entries after p e = record { counted = refl; stored = e }
+one_listed d k entries after e = record { counted = refl; stored = e }
 
--- a record that may differ, in an output that may be empty
-pub item_listed : (t : Bool) (d : Difference) (k : ℕ) (entries after : List ℕ)
-    → after ≡ cond (ltb 0 (length entries) && t) (sets entries (entry_room k) (entry_of d)) entries
-    → Listing (item_if t d []) k entries after (k + bool_byte t)
-item_listed t d k entries after e = item_by (ltb 0 (length entries)) t d k entries after refl e
+pub one_counted : (d : Difference) (k : ℕ) (entries after : List ℕ) → length entries ≡ 0 → after ≡ entries → Listing (d ∷ []) k entries after (k + 1)
+one_counted d k entries after none e = one_listed d k entries after (e ∙ sets_empty entries (entry_of d) (entry_room k) none)
 
 -- ---- one record of a block
 -- the differences from a place on: that of the record there, if it differs, and those from the next place on
@@ -188,26 +194,9 @@ next_item (suc n) done at out a told b other more =
     let number : done + 1 ≡ suc done = omega arith in
     rw (less, number, drop-drop record_size at a, drop-drop record_size at b, drop-drop 3 out told, drop-drop 3 out other)
 
--- the code's test of a record, with refusal and answer as one number
-test_is : (same : Bool) (one two : ℕ) (r s : List ℕ) (o p : Outcome) → one < 2 ^ 24 → two < 2 ^ 24
-    → same ≡ same_bytes r s → told_in one ≡ o → told_in two ≡ p → not (same && eqb one two) ≡ differs r o s p
-test_is same one two r s o p h i e f g = rw (e, ← f, ← g, told_same one two h i)
-
 -- a list in two parts
 pub record Parts (whole part rest : List Difference) : Type 0 where
   pub split : whole ≡ part ++ rest
-
--- where the first part is one item if it differs
-pub some_left : (t : Bool) (d : Difference) (here rest : List Difference) → Parts here (item_if t d []) rest → t ≡ true → 1 ≤ length here
-some_left t d here rest p e = rw (p.split, e) (omega arith)
-
-pub step_counted : (t : Bool) (d : Difference) (here rest : List Difference) (k : ℕ) → Parts here (item_if t d []) rest
-    → k + bool_byte t + length rest ≡ k + length here
-step_counted t d here rest k p = rw p.split (go t)
-  where
-    go : (u : Bool) → k + bool_byte u + length rest ≡ k + length (item_if u d [] ++ rest)
-    go true = omega arith
-    go false = omega arith
 
 -- the first part is listed, and then the rest
 pub parts_stored : {whole part rest : List Difference} {found r : ℕ} {entries after : List ℕ} → Parts whole part rest
@@ -217,78 +206,134 @@ parts_stored {part = part} {rest = rest} {found} {r} {entries} {after} p l = rw 
 pub parts_sizes : {whole part rest : List Difference} → Parts whole part rest → length whole ≡ length part + length rest
 parts_sizes {part = part} {rest = rest} p = rw p.split (length-append part rest)
 
-module _ (left done at out : ℕ) (a told b other : List ℕ) (same : Bool) (one two : ℕ) (more : 0 < left)
-    (small : one < 2 ^ 24) (small-2 : two < 2 ^ 24) (record_same : same ≡ same_bytes (record_at a at) (record_at b at))
-    (first : told_in one ≡ told_by (drop out told)) (second : told_in two ≡ told_by (drop out other)) where
+-- element i of the elements of n bytes
+chunk_at : (n k i : ℕ) (log : List ℕ) → i < k → get_or (first_chunks n k log) i [] ≡ take n (drop (i * n) log)
+chunk_at n zero i log h = absurd (omega arith)
+chunk_at n (suc k) zero log h = let none : 0 * n ≡ 0 = omega arith in rw none
+chunk_at n (suc k) (suc i) log h =
+    let next : n + i * n ≡ suc i * n = omega arith in
+    chunk_at n k i (drop n log) (omega arith) ∙ rw (drop-drop (i * n) n log, next)
+
+told_taken : (l : List ℕ) → told_by (take 3 l) ≡ told_by l
+told_taken [] = refl
+told_taken (x ∷ []) = refl
+told_taken (x ∷ y ∷ []) = refl
+told_taken (x ∷ y ∷ z ∷ l) = refl
+
+module _ (n m k l before i : ℕ) (a told b other : List ℕ) (ours theirs sets_1 sets_2 : List (List ℕ))
+    (more : i < n) (more_2 : i < m) (more_3 : i < k) (more_4 : i < l) (room : k * 3 ≤ length told) (room_2 : l * 3 ≤ length other)
+    (first : ours ≡ first_chunks record_size n a) (second : theirs ≡ first_chunks record_size m b)
+    (told_1 : sets_1 ≡ first_chunks 3 k told) (told_2 : sets_2 ≡ first_chunks 3 l other) where
   abbrev here : List Difference
-  here = differences_in left done (drop at a) (drop out told) (drop at b) (drop out other)
+  here = differences_in (n - i) (before + i) (drop (i * record_size) a) (drop (i * 3) told) (drop (i * record_size) b) (drop (i * 3) other)
 
   abbrev rest : List Difference
-  rest = differences_in (left - 1) (done + 1) (drop (at + record_size) a) (drop (out + 3) told) (drop (at + record_size) b) (drop (out + 3) other)
+  rest = differences_in (n - (i + 1)) (before + (i + 1)) (drop ((i + 1) * record_size) a) (drop ((i + 1) * 3) told) (drop ((i + 1) * record_size) b) (drop ((i + 1) * 3) other)
 
   abbrev item : Difference
-  item = record { number = done + 1; first = told_in one; second = told_in two }
+  item = record { number = before + i + 1; first = told_by (get_or sets_1 i []); second = told_by (get_or sets_2 i []) }
 
-  abbrev test : Bool
-  test = not (same && eqb one two)
+  abbrev next : List Difference
+  next = differences_in (n - i - 1) (before + i + 1) (drop (i * record_size + record_size) a) (drop (i * 3 + 3) told) (drop (i * record_size + record_size) b) (drop (i * 3 + 3) other)
+
+  next_is : next ≡ rest
+  next_is =
+      let less : n - i - 1 ≡ n - (i + 1) = omega arith in
+      let number : before + i + 1 ≡ before + (i + 1) = omega arith in
+      let place : i * record_size + record_size ≡ (i + 1) * record_size = omega arith in
+      let out : i * 3 + 3 ≡ (i + 1) * 3 = omega arith in
+      rw (less, number, place, out)
+
+  ours_is : get_or ours i [] ≡ record_at a (i * record_size)
+  ours_is = rw first (chunk_at record_size n i a more)
+
+  theirs_is : get_or theirs i [] ≡ record_at b (i * record_size)
+  theirs_is = rw second (chunk_at record_size m i b more_2)
+
+  set_is : get_or sets_1 i [] ≡ take 3 (drop (i * 3) told)
+  set_is = rw told_1 (chunk_at 3 k i told more_3)
+
+  set_is_2 : get_or sets_2 i [] ≡ take 3 (drop (i * 3) other)
+  set_is_2 = rw told_2 (chunk_at 3 l i other more_4)
+
+  size : length (get_or sets_1 i []) ≡ 3
+  size = rw set_is (length-take-le 3 (drop (i * 3) told) (omega (arith, length-drop (i * 3) told)))
+
+  size_2 : length (get_or sets_2 i []) ≡ 3
+  size_2 = rw set_is_2 (length-take-le 3 (drop (i * 3) other) (omega (arith, length-drop (i * 3) other)))
+
+  -- the code's test
+  abbrev differ : Bool
+  differ = not (bytes_eq (get_or ours i []) (get_or theirs i []) && bytes_eq (get_or sets_1 i []) (get_or sets_2 i []))
+
+  test : differ ≡ differs (record_at a (i * record_size)) (told_by (get_or sets_1 i [])) (record_at b (i * record_size)) (told_by (get_or sets_2 i []))
+  test =
+      rw (equal_same (get_or ours i []) (get_or theirs i []), told_same (get_or sets_1 i []) (get_or sets_2 i []) size size_2)
+      (ap₂ (λ (r s : List ℕ). differs r (told_by (get_or sets_1 i [])) s (told_by (get_or sets_2 i []))) ours_is theirs_is)
+
+  told_is : told_by (drop (i * 3) told) ≡ told_by (get_or sets_1 i [])
+  told_is = sym (ap told_by set_is ∙ told_taken (drop (i * 3) told))
+
+  told_is_2 : told_by (drop (i * 3) other) ≡ told_by (get_or sets_2 i [])
+  told_is_2 = sym (ap told_by set_is_2 ∙ told_taken (drop (i * 3) other))
 
   -- the record's difference, if it differs, and those behind it
-  pub record_parts : Parts here (item_if test item []) rest
+  record_parts : Parts here (item_if differ item []) rest
   record_parts =
       record {
         split =
-            next_item left done at out a told b other more
-            ∙ ap (λ (t : Bool). item_if t (record { number = done + 1; first = told_by (drop out told); second = told_by (drop out other) }) rest) (sym (test_is same one two (record_at a at) (record_at b at) (told_by (drop out told)) (told_by (drop out other)) small small-2 record_same first second))
-            ∙ ap₂ (λ (o p : Outcome). item_if test (record { number = done + 1; first = o; second = p }) rest) (sym first) (sym second)
-            ∙ append_item test item [] rest;
+            next_item (n - i) (before + i) (i * record_size) (i * 3) a told b other (omega arith)
+            ∙ ap₂ (λ (o p : Outcome). item_if (differs (record_at a (i * record_size)) o (record_at b (i * record_size)) p) (record { number = before + i + 1; first = o; second = p }) next) told_is told_is_2
+            ∙ ap₂ (λ (t : Bool) (ds : List Difference). item_if t item ds) (sym test) next_is
+            ∙ append_item differ item [] rest;
       }
 
+  pub none_here : bytes_eq (get_or ours i []) (get_or theirs i []) ≡ true → bytes_eq (get_or sets_1 i []) (get_or sets_2 i []) ≡ true → here ≡ rest
+  none_here e f = record_parts.split ∙ rw (e, f)
+
+  pub one_here : (bytes_eq (get_or ours i []) (get_or theirs i []) && bytes_eq (get_or sets_1 i []) (get_or sets_2 i [])) ≡ false → Parts here (item ∷ []) rest
+  one_here e = record { split = record_parts.split ∙ rw e }
+
 -- ---- one block
-module _ (n left done : ℕ) (c d e f : Chip) (a b told other x y : List ℕ) (some : n ≤ left)
-    (first : told ≡ answers_of true (steps_of n c (drop (done * record_size) a)) ++ x)
-    (second : other ≡ answers_of true (steps_of n d (drop (done * record_size) b)) ++ y)
-    (next : e ≡ last_chip c (steps_of n c (drop (done * record_size) a)))
-    (next-2 : f ≡ last_chip d (steps_of n d (drop (done * record_size) b))) where
+module _ (before : ℕ) (c d e f : Chip) (x y a b told other u v : List ℕ)
+    (whole_x : length x % record_size ≡ 0) (alike : length y ≡ length x)
+    (first : told ≡ answers_of true (steps_of (records_in (length x)) c x) ++ u)
+    (second : other ≡ answers_of true (steps_of (records_in (length y)) d y) ++ v)
+    (next : e ≡ chip_from c x) (next_2 : f ≡ chip_from d y) where
   abbrev block : List Difference
-  block = differences_in n done (drop (done * record_size) a) told (drop (done * record_size) b) other
+  block = differences_in (records_in (length x)) before x told y other
 
-  block_is : block ≡ differences_from n done c d (drop (done * record_size) a) (drop (done * record_size) b)
-  block_is = rw (first, second) (by_answers n done c d (drop (done * record_size) a) (drop (done * record_size) b) x y)
-
-  -- there are at most as many differences as records in it
-  pub block_most : length block ≤ n
-  block_most = rw block_is (at_most n done c d (drop (done * record_size) a) (drop (done * record_size) b))
+  block_is : block ≡ differences_from (records_in (length x)) before c d x y
+  block_is = rw (first, second, alike) (by_answers (records_in (length x)) before c d x y u v)
 
   -- from it on, and behind it over the chips that it left
   abbrev whole : List Difference
-  whole = differences_from left done c d (drop (done * record_size) a) (drop (done * record_size) b)
+  whole = differences_from (records_in (length (x ++ a))) before c d (x ++ a) (y ++ b)
 
   abbrev behind_it : List Difference
-  behind_it = differences_from (left - n) (done + n) e f (drop ((done + n) * record_size) a) (drop ((done + n) * record_size) b)
+  behind_it = differences_from (records_in (length a)) (before + records_in (length x)) e f a b
 
-  pub block_parts : Parts whole block behind_it
+  -- in two parts; and there are at most as many in the block as it has records
+  pub block_parts : Parts whole block behind_it × (length block ≤ records_in (length x))
   block_parts =
-      let parts : n + (left - n) ≡ left = omega arith in
-      let place : done * record_size + n * record_size ≡ (done + n) * record_size = omega arith in
-      record {
-        split = rw (block_is, next, next-2)
-            (ap (λ (m : ℕ). differences_from m done c d (drop (done * record_size) a) (drop (done * record_size) b)) (sym parts)
-            ∙ in_parts n (left - n) done c d (drop (done * record_size) a) (drop (done * record_size) b)
-            ∙ rw (drop-drop (n * record_size) (done * record_size) a, drop-drop (n * record_size) (done * record_size) b, place));
-      }
+      let count : records_in (length (x ++ a)) ≡ records_in (length x) + records_in (length a) = rw (length-append x a) (omega arith) in (
+        record {
+          split = rw (block_is, next, next_2, alike, count)
+              (in_parts (records_in (length x)) (records_in (length a)) before c d x y a b (omega arith) (omega arith));
+        },
+        rw block_is (at_most (records_in (length x)) before c d x y),
+      )
 
 -- ---- where the agreeing records end
-pub agree_step : (left at : ℕ) (a b : List ℕ) → 0 < left → same_bytes (record_at a at) (record_at b at) ≡ true
-    → agreeing_of left (drop at a) (drop at b) ≡ suc (agreeing_of (left - 1) (drop (at + record_size) a) (drop (at + record_size) b))
-agree_step zero at a b more e = absurd (omega arith)
-agree_step (suc n) at a b more e =
-    let less : suc n - 1 ≡ n = omega arith in
-    agree_next n (drop at a) (drop at b) e ∙ rw (less, drop-drop record_size at a, drop-drop record_size at b)
-
-pub agree_stop : (left at : ℕ) (a b : List ℕ) → 0 < left → same_bytes (record_at a at) (record_at b at) ≡ false
-    → agreeing_of left (drop at a) (drop at b) ≡ 0
-agree_stop zero at a b more e = absurd (omega arith)
-agree_stop (suc n) at a b more e = agree_ends n (drop at a) (drop at b) e
+pub agree_prefix : (n m : ℕ) (a b : List ℕ)
+    → prefix_len (λ (p : List ℕ × List ℕ). bytes_eq p.0 p.1) (zip (first_chunks record_size n a) (first_chunks record_size m b))
+    ≡ agreeing_of (min n m) a b
+unfolding agreeing_of
+agree_prefix zero m a b = simp unary_clauses
+agree_prefix (suc n) zero a b = simp unary_clauses
+agree_prefix (suc n) (suc m) a b =
+    let one : (k : ℕ) → 1 + k ≡ suc k = λ k. omega arith in
+    simp (unary_clauses, equal_same, agree_prefix n m (drop record_size a) (drop record_size b), one)
 
 pub agree_most : (n : ℕ) (a b : List ℕ) → agreeing_of n a b ≤ n
 unfolding agreeing_of

@@ -3,3 +3,4 @@ pub mod Runs
 pub mod Lists
 pub mod Blocks
 pub mod Whole
+pub mod Mid

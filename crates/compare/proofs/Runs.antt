@@ -2,31 +2,22 @@
 use mathlib.Core.Path.{◌≡◌, ap, sym, ◌∙◌}
 use mathlib.Core.Bool.{Bool, true}
 use mathlib.Core.List.{List, ◌++◌}
-use Prim.Native.Nat.{ℕ, zero, suc, ◌+◌, ◌*◌, ◌-◌, ◌≤◌}
+use Prim.Native.Nat.{ℕ, zero, suc, ◌+◌, ◌*◌, ◌%◌, ◌≤◌}
 use native.Mathlib.Omega.{arith}
 use lib.IntN.{ℤ}
-use lib.ListN.{length, take, drop, length-drop, take-append-drop}
-use lib.Seq.{drop-drop, take_all, length-take-le}
+use lib.ListN.{length, take, drop, length-append, take-append-drop}
+use lib.Seq.{drop-drop, length-take-le}
 use Rattle.image.specs.Image.{is_chip}
 use Rattle.mcp2515.specs.declared.Chip.{Chip}
-use Rattle.mcp2515.specs.declared.Stepped.{Stepped}
 use Rattle.mcp2515.specs.Step.{next_chip}
 use Rattle.mcp2515.specs.ChipImage.{chip_of}
-use Rattle.bus_log.specs.Log.{record_size, max_records, records_in, record_at, steps_of, last_chip, answers_of}
+use Rattle.bus_log.specs.Log.{record_size, records_in, record_at, steps_of, last_chip, answers_of}
 use Rattle.bus_log.specs.Run.{answer_room}
-use Rattle.bus_log.specs.From.{from_refusal, from_answers, RunningFrom}
-use Rattle.bus_log.proofs.Refusals.{accepts}
+use Rattle.bus_log.specs.From.{from_refusal, from_answers, chip_from, RunningFrom}
+use Rattle.bus_log.proofs.Refusals.{Accepted, accepts}
 use Rattle.bus_log.proofs.Helds.{held_none}
-use Rattle.bus_log.proofs.Steps.{steps_prefix}
+use Rattle.bus_log.proofs.Steps.{steps_append, steps_prefix, chip_append}
 use Rattle.compare.specs.Block.{Ran}
-
--- the steps of the first records of a log are those of a log that ends behind them
-steps_taken : (k : ℕ) (c : Chip) (log : List ℕ) → k * record_size ≤ length log
-    → steps_of k c (take (k * record_size) log) ≡ steps_of k c log
-steps_taken k c log h =
-    let size = length-take-le (k * record_size) log h in
-    sym (steps_prefix k c (take (k * record_size) log) (drop (k * record_size) log) (omega arith))
-    ∙ ap (λ (l : List ℕ). steps_of k c l) (take-append-drop (k * record_size) log)
 
 answers_run : (wanted : Bool) (m log answers : List ℕ) → from_refusal wanted m log answers ≡ 0
     → from_answers wanted m log answers
@@ -34,22 +25,38 @@ answers_run : (wanted : Bool) (m log answers : List ℕ) → from_refusal wanted
 unfolding from_answers
 answers_run wanted m log answers none = rw none
 
--- the call on the first count records of a log
-pub ran : (wanted : Bool) (count : ℕ) (log m n told after : List ℕ) (r : ℤ) → is_chip m ≡ true → count * record_size ≤ length log → count ≤ max_records
-    → answer_room wanted count ≤ length told → RunningFrom wanted m (take (count * record_size) log) told n after r → Ran wanted count log m n told after
-ran wanted count log m n told after r is fits some room w =
-    let part = take (count * record_size) log in
-    let size : length part ≡ count * record_size = length-take-le (count * record_size) log fits in
-    let records : records_in (length part) ≡ count = omega arith in
-    let none : from_refusal wanted m part told ≡ 0 = held_none m _ is (accepts wanted (length part) (length told) (record { whole = omega arith; count = omega arith; room = rw records room })) in
-    let steps : steps_of (records_in (length part)) (chip_of m) part ≡ steps_of count (chip_of m) log = rw records (steps_taken count (chip_of m) log fits) in
+-- the steps of the first records of a log are those of a log that ends behind them
+pub steps_taken : (k : ℕ) (c : Chip) (log : List ℕ) → k * record_size ≤ length log → steps_of k c (take (k * record_size) log) ≡ steps_of k c log
+steps_taken k c log h =
+    let size = length-take-le (k * record_size) log h in
+    sym (steps_prefix k c (take (k * record_size) log) (drop (k * record_size) log) (omega arith))
+    ∙ ap (λ (l : List ℕ). steps_of k c l) (take-append-drop (k * record_size) log)
+
+-- the call on some records that it does not refuse
+pub ran : (wanted : Bool) (log m n told after : List ℕ) (r : ℤ) → is_chip m ≡ true → Accepted wanted (length log) (length told)
+    → RunningFrom wanted m log told n after r → Ran wanted (records_in (length log)) log m n told after
+ran wanted log m n told after r is accepted w =
+    let none : from_refusal wanted m log told ≡ 0 = held_none m _ is (accepts wanted (length log) (length told) accepted) in
     record {
-      ahead = record { again = w.chip.again none; chip = w.chip.chip none ∙ ap (λ (ss : List Stepped). last_chip (chip_of m) ss) steps };
-      answers = w.buffer ∙ answers_run wanted m part told none ∙ rw (steps, records);
+      ahead = record { again = w.chip.again none; chip = w.chip.chip none };
+      answers = w.buffer ∙ answers_run wanted m log told none;
     }
 
+-- the chip after a log that is cut between two records
+pub chip_joined : (c : Chip) (a b : List ℕ) → length a % record_size ≡ 0 → chip_from c (a ++ b) ≡ chip_from (chip_from c a) b
+chip_joined c a b whole =
+    let i = records_in (length a) in
+    let j = records_in (length b) in
+    let count : records_in (length (a ++ b)) ≡ i + j = rw (length-append a b) (omega arith) in
+    let size : length a ≡ i * record_size = omega arith in
+    rw (count, steps_append i j c a b size) (chip_append c (steps_of i c a) (steps_of j (last_chip c (steps_of i c a)) b))
+
+pub chip_none : (c : Chip) (log : List ℕ) → length log ≡ 0 → chip_from c log ≡ c
+unfolding steps_of last_chip
+chip_none c log e = let none : records_in (length log) ≡ 0 = omega arith in rw none
+
 -- the chip after two parts of a log
-pub chip_parts : (m n : ℕ) (c : Chip) (log : List ℕ)
+chip_parts : (m n : ℕ) (c : Chip) (log : List ℕ)
     → last_chip c (steps_of (m + n) c log)
     ≡ last_chip (last_chip c (steps_of m c log)) (steps_of n (last_chip c (steps_of m c log)) (drop (m * record_size) log))
 unfolding steps_of last_chip
@@ -66,7 +73,3 @@ unfolding steps_of last_chip
 chip_next k c log =
     let one : suc k ≡ k + 1 = omega arith in
     ap (λ (j : ℕ). last_chip c (steps_of j c log)) one ∙ chip_parts k 1 c log
-
--- a part to the end is what is left after the start
-pub to_end : (n : ℕ) (s : List ℕ) → take (length s - n) (drop n s) ≡ drop n s
-to_end n s = take_all (length s - n) (drop n s) (omega (arith, length-drop n s))

@@ -1,28 +1,21 @@
 -- What the code compares: answers as bytes, a block of records at a time, from the first record on that differs. Laws tie all of it to
 -- the list of differences. Assumes nothing: these are definitions.
-use Rattle.std.specs.Prelude.{◌≡◌, Bool, true, cond, List, [], ◌∷◌, ◌++◌, ℕ, zero, suc, ◌+◌, ◌*◌, ◌-◌, ◌/◌, ◌%◌, ◌≤◌, ltb, length, get_or, take, drop}
+use Rattle.std.specs.Prelude.{◌≡◌, Bool, true, cond, List, [], ◌++◌, ℕ, zero, suc, ◌+◌, ◌*◌, ◌-◌, ◌≤◌, ltb, length, get_or, take, drop, Result, Ok, Err}
 use Rattle.std.proofs.lemmas.List.Edits.{sets}
 use Rattle.records.specs.declared.Outcome.{Outcome}
+use Rattle.records.specs.declared.Refusal.{Refusal}
+use Rattle.records.specs.Records.{accepted, refusal_number}
 use Rattle.image.specs.Image.{is_chip}
 use Rattle.mcp2515.specs.declared.Chip.{Chip}
 use Rattle.mcp2515.specs.ChipImage.{chip_of}
-use Rattle.bus_log.specs.Log.{record_size, steps_of, last_chip, answers_of}
+use Rattle.bus_log.specs.Log.{record_size, records_in, steps_of, last_chip, answers_of}
 use Rattle.bus_log.specs.Run.{answer_size, answer_room}
-use Rattle.compare.specs.declared.Compared.{Compared}
+use Rattle.compare.specs.declared.pair.Pair.{Pair}
 use Rattle.compare.specs.Compare.{same_bytes, differs, Difference, item_if, differences_from, differences_of, entries_of, entry_room}
-
--- the n bytes of a number, low byte first
-abbrev pub bytes_of : ℕ → ℕ → List ℕ
-bytes_of zero x = []
-bytes_of (suc n) x = x % 256 ∷ bytes_of n (x / 256)
 
 -- refusal, answer and set in the first three of some bytes
 abbrev pub told_by : List ℕ → Outcome
 told_by told = record { refusal = get_or told 0 0; answer = get_or told 1 0; matched = get_or told 2 0 }
-
--- the same in one number, the refusal in the low byte
-abbrev pub told_in : ℕ → Outcome
-told_in x = record { refusal = x % 256; answer = x / 256 % 256; matched = x / 0x10000 % 256 }
 
 -- the differences of the next n records of the logs a and b with the answer bytes of either
 unfoldable pub differences_in : ℕ → ℕ → List ℕ → List ℕ → List ℕ → List ℕ → List Difference
@@ -31,6 +24,15 @@ differences_in (suc n) before a told b other =
     item_if (differs (take record_size a) (told_by told) (take record_size b) (told_by other))
     (record { number = suc before; first = told_by told; second = told_by other })
     (differences_in n (suc before) (drop record_size a) (drop (answer_size true) told) (drop record_size b) (drop (answer_size true) other))
+
+-- the differences of a pair of parts: with the answer bytes of either, and run from one chip
+abbrev pub differences_told : Pair → List ℕ → List ℕ → List Difference
+differences_told p told other =
+    differences_in (records_in (length p.first.now)) p.before p.first.now told p.second.now other
+
+abbrev pub differences_behind : Pair → Chip → List Difference
+differences_behind p c =
+    differences_from (records_in (length p.first.now)) p.before c c p.first.now p.second.now
 
 -- a run of the first count records of a log over the chip bytes m, left as n; `Ran`: with their answers stored in told, left as after
 pub record Ahead (count : ℕ) (log m n : List ℕ) : Type 0 where
@@ -51,7 +53,16 @@ pub record Listing (ds : List Difference) (found : ℕ) (entries after : List �
   pub counted : r ≡ found + length ds
   pub stored : after ≡ sets entries (entry_room found) (entries_of ds)
 
--- what is told of two logs by a refusal: with it no entry, without it all
+-- what is told of two logs: a refusal, 0 for none, and the number of entries; .. by a Result
+pub record Compared : Type 0 where
+  pub refusal : ℕ
+  pub found : ℕ
+
+abbrev pub compared_in : Result ℕ Refusal → Compared
+compared_in (Ok n) = record { refusal = accepted; found = n }
+compared_in (Err e) = record { refusal = refusal_number e; found = 0 }
+
+-- .. by a refusal: with it no entry, without it all
 unfoldable pub compared_by : ℕ → List ℕ → List ℕ → Compared
 compared_by refusal a b = record { refusal = refusal; found = cond (ltb 0 refusal) 0 (length (differences_of a b)) }
 

@@ -4,17 +4,17 @@ use mathlib.Core.Bool.{Bool}
 use Rattle.records.specs.declared.Frame.{Frame}
 use Rattle.registers.specs.declared.Control.{Control}
 use Rattle.registers.specs.declared.Core.{Core}
+use Rattle.registers.specs.declared.RxBuffer.TheVariants.{Rxb0, Rxb1}
 use Rattle.receiving.specs.declared.Verdict.{Verdict}
-use Rattle.receiving.specs.declared.Verdict.TheVariants.{Unmatched, Stored0, Stored1, RolledOver, Lost0, Lost1}
+use Rattle.receiving.specs.declared.Verdict.TheVariants.{Unmatched, Stored, RolledOver, Lost}
 use Rattle.receiving.specs.Receiving.{verdict_of, match_of, control_after, received_of}
 
 after_counters : (v : Verdict) (c : Control) (remote : Bool) → (control_after v c remote).counters ≡ c.counters
 after_counters Unmatched c remote = refl
-after_counters (Stored0 h) c remote = refl
-after_counters (Stored1 h) c remote = refl
+after_counters (Stored Rxb0 h) c remote = refl
+after_counters (Stored Rxb1 h) c remote = refl
 after_counters (RolledOver h) c remote = refl
-after_counters Lost0 c remote = refl
-after_counters Lost1 c remote = refl
+after_counters (Lost b) c remote = refl
 
 pub received_counters : (k : Core) (f : Frame) → (received_of k f).core.control.counters ≡ k.control.counters
 unfolding received_of match_of

@@ -1,15 +1,13 @@
 -- Events of the bus and of the request pins, kinds 3 to 8: when one is refused, its answer, and the core after it.
-use Rattle.std.specs.Prelude.{ℕ, Bool, true, false, cond, not, ◌&&◌, List, eqb}
+use Rattle.std.specs.Prelude.{ℕ, Bool, true, false, cond, not, ◌&&◌, List, eqb, Option, Some, None}
 use Rattle.bits.specs.Bit.{has_bit, set_bit}
 use Rattle.records.specs.declared.Kind.{Kind}
-use Rattle.records.specs.declared.Kind.TheVariants.{SelectLow, Exchange, SelectHigh, FrameHeard, BusIdle, FrameEnds, ReceiveError, Recovery, PinLevel, Unknown}
+use Rattle.records.specs.declared.Kind.TheVariants.{SelectLow, Exchange, SelectHigh, FrameHeard, BusIdle, FrameEnds, ReceiveError, Recovery, PinLevel}
 use Rattle.records.specs.declared.Frame.{Frame}
 use Rattle.records.specs.declared.Outcome.{Outcome}
 use Rattle.records.specs.Records.{refused_outcome, accepted, refused_field, refused_in_flight, refused_no_flight, refused_state, byte_at, kind_of, frame_of, sound_of}
 use Rattle.registers.specs.declared.Mode.{Mode}
 use Rattle.registers.specs.declared.Mode.TheVariants.{Normal, Sleep, Loopback, ListenOnly, Configuration}
-use Rattle.registers.specs.declared.Flight.{Flight}
-use Rattle.registers.specs.declared.Flight.TheVariants.{Idle, Of}
 use Rattle.registers.specs.declared.TxBuffer.{TxBuffer}
 use Rattle.registers.specs.declared.TxBuffer.TheVariants.{Txb0, Txb1, Txb2}
 use Rattle.registers.specs.declared.Control.{Control}
@@ -94,9 +92,9 @@ ends_in true k b LostArbitration = finished k b LostArbitration
 ends_in true k b Failed = finished k b Failed
 ends_in false k b e = finished k b e
 
-abbrev pub ends_by : Flight → Core → End → Happened
-ends_by Idle k e = plain 0 k
-ends_by (Of b) k e = ends_in (is_loopback k.control.state.mode) k b e
+abbrev pub ends_by : Option TxBuffer → Core → End → Happened
+ends_by None k e = plain 0 k
+ends_by (Some b) k e = ends_in (is_loopback k.control.state.mode) k b e
 
 unfoldable pub ended : Core → ℕ → Happened
 ended k n = ends_by k.control.state.flight k (end_of n)
@@ -145,17 +143,17 @@ unfoldable pub pinned : Core → List ℕ → Core
 pinned k r = pin_moved k (pin_of (byte_at r 1)) (is_high_level (byte_at r 2))
 
 -- ---- an accepted event
-abbrev pub happens_by : Kind → Core → List ℕ → Happened
-happens_by SelectLow k r = plain 0 k
-happens_by Exchange k r = plain 0 k
-happens_by SelectHigh k r = plain 0 k
-happens_by FrameHeard k r = answered (heard_of k (frame_of r))
-happens_by BusIdle k r = idled k
-happens_by FrameEnds k r = ended k (byte_at r 1)
-happens_by ReceiveError k r = quiet k (error_heard k.control (byte_at r 1))
-happens_by Recovery k r = quiet k (recovered k.control)
-happens_by PinLevel k r = plain 0 (pinned k r)
-happens_by Unknown k r = plain 0 k
+abbrev pub happens_by : Option Kind → Core → List ℕ → Happened
+happens_by (Some SelectLow) k r = plain 0 k
+happens_by (Some Exchange) k r = plain 0 k
+happens_by (Some SelectHigh) k r = plain 0 k
+happens_by (Some FrameHeard) k r = answered (heard_of k (frame_of r))
+happens_by (Some BusIdle) k r = idled k
+happens_by (Some FrameEnds) k r = ended k (byte_at r 1)
+happens_by (Some ReceiveError) k r = quiet k (error_heard k.control (byte_at r 1))
+happens_by (Some Recovery) k r = quiet k (recovered k.control)
+happens_by (Some PinLevel) k r = plain 0 (pinned k r)
+happens_by None k r = plain 0 k
 
 -- ---- refusals 3, 4 and 5, where refusal 2 does not name the record; any record but an event is refused as a field
 abbrev pub busy_refusal : Control → ℕ
@@ -171,17 +169,17 @@ end_refusal c n =
 abbrev pub recovery_refusal : Control → ℕ
 recovery_refusal c = cond (is_bus_off c.counters) accepted refused_state
 
-abbrev pub refusal_by : Kind → Control → List ℕ → ℕ
-refusal_by SelectLow c r = refused_field
-refusal_by Exchange c r = refused_field
-refusal_by SelectHigh c r = refused_field
-refusal_by FrameHeard c r = busy_refusal c
-refusal_by BusIdle c r = busy_refusal c
-refusal_by FrameEnds c r = end_refusal c (byte_at r 1)
-refusal_by ReceiveError c r = busy_refusal c
-refusal_by Recovery c r = recovery_refusal c
-refusal_by PinLevel c r = accepted
-refusal_by Unknown c r = refused_field
+abbrev pub refusal_by : Option Kind → Control → List ℕ → ℕ
+refusal_by (Some SelectLow) c r = refused_field
+refusal_by (Some Exchange) c r = refused_field
+refusal_by (Some SelectHigh) c r = refused_field
+refusal_by (Some FrameHeard) c r = busy_refusal c
+refusal_by (Some BusIdle) c r = busy_refusal c
+refusal_by (Some FrameEnds) c r = end_refusal c (byte_at r 1)
+refusal_by (Some ReceiveError) c r = busy_refusal c
+refusal_by (Some Recovery) c r = recovery_refusal c
+refusal_by (Some PinLevel) c r = accepted
+refusal_by None c r = refused_field
 
 unfoldable pub event_refusal : Control → List ℕ → ℕ
 event_refusal c r = cond (sound_of r) (refusal_by (kind_of r) c r) refused_field

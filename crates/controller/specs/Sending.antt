@@ -1,10 +1,9 @@
 -- Sending: the choice at bus idle and the three ends of an own frame.
-use Rattle.std.specs.Prelude.{ℕ, ◌+◌, ◌*◌, ◌/◌, ◌%◌, max, Bool, cond, not, ◌&&◌, List, [], ◌∷◌, eqb, leb, get_or}
+use Rattle.std.specs.Prelude.{ℕ, ◌+◌, ◌*◌, ◌/◌, ◌%◌, max, Bool, cond, not, ◌&&◌, ◌≡◌, List, [], ◌∷◌, eqb, leb, get_or, Option, Some, None}
 use Rattle.bits.specs.Bit.{has_bit, set_bit, clear_bit}
 use Rattle.records.specs.declared.Frame.{Frame}
 use Rattle.registers.specs.declared.TxBuffer.{TxBuffer}
 use Rattle.registers.specs.declared.TxBuffer.TheVariants.{Txb0, Txb1, Txb2}
-use Rattle.registers.specs.declared.Flight.TheVariants.{Idle, Of}
 use Rattle.registers.specs.declared.TxControl.{TxControl}
 use Rattle.registers.specs.declared.Counters.{Counters}
 use Rattle.registers.specs.declared.Control.{Control}
@@ -12,16 +11,14 @@ use Rattle.registers.specs.State.{osm_bit, exide_bit, rtr_bit, txreq_bit, txerr_
 use Rattle.registers.specs.Errors.{is_bus_off, moved_to, tec_less, tec_more}
 use Rattle.registers.specs.Modes.{sends_in, waits}
 use Rattle.registers.specs.State.{aborts_all}
-use Rattle.controller.specs.declared.Choice.{Choice}
-use Rattle.controller.specs.declared.Choice.TheVariants.{Send, Nobody}
 use Rattle.controller.specs.declared.End.{End}
 use Rattle.controller.specs.declared.End.TheVariants.{Sent, LostArbitration, Failed}
 
 -- ---- the choice
 -- the answer of kind 4 by number
-abbrev pub choice_number : Choice → ℕ
-choice_number (Send b) = tx_number b
-choice_number Nobody = 3
+abbrev pub choice_number : Option TxBuffer → ℕ
+choice_number (Some b) = tx_number b
+choice_number None = 3
 
 -- a buffer with TXREQ ranks by TXP, bits 1-0; one without does not rank
 abbrev pub rank_of : ℕ → ℕ
@@ -38,17 +35,20 @@ best_of t = best_by (rank_of t.txb0) (rank_of t.txb1) (rank_of t.txb2)
 abbrev pub may_send : Control → Bool
 may_send c = sends_in c.state.mode && not (is_bus_off c.counters)
 
-unfoldable pub choice_of : Control → Choice
-choice_of c = cond (may_send c && waits c.tx) (Send (best_of c.tx)) Nobody
+unfoldable pub choice_of : Control → Option TxBuffer
+choice_of c = cond (may_send c && waits c.tx) (Some (best_of c.tx)) None
 
-abbrev pub started : Choice → Control → Control
-started (Send b) c = with_flight c (Of b)
-started Nobody c = c
+abbrev pub started : Option TxBuffer → Control → Control
+started (Some b) c = with_flight c (Some b)
+started None c = c
 
 -- ---- the ends
 -- by byte 1 of kind 5: sent is 0, lost arbitration 1, an error 2
 abbrev pub end_of : ℕ → End
 end_of n = cond (eqb n 0) Sent (cond (eqb n 1) LostArbitration Failed)
+
+abbrev pub IsEnd : ℕ → End → Type 0
+IsEnd n e = e ≡ end_of n
 
 -- in Normal only the counters move
 abbrev pub counted : Control → Counters → Control
@@ -62,7 +62,7 @@ after_failure c ctrl =
     (cond (has_bit c.flags.canctrl osm_bit) (clear_bit ctrl txreq_bit) ctrl)
 
 abbrev pub with_ctrl : Control → TxBuffer → ℕ → Control
-with_ctrl c b v = with_flight (with_tx c (with_tx_control c.tx b v)) Idle
+with_ctrl c b v = with_flight (with_tx c (with_tx_control c.tx b v)) None
 
 -- a sent frame drops its TXREQ and raises TXnIF
 unfoldable pub sent_by : Control → TxBuffer → Control

@@ -1,16 +1,13 @@
 // Events of the bus and of the request pins: when one is refused, its answer, and the core after it.
-ghost use Rattle.std.specs.Prelude.{◌≡◌, not, ◌&&◌, length};
-ghost use Rattle.records.specs.Records.{record_of};
-ghost use Rattle.registers.specs.State.{is_normal, is_idle, with_control};
+ghost use Rattle.std.specs.Prelude.{◌≡◌, not, ◌&&◌, Some};
+ghost use Rattle.records.specs.Records.{record_of, refusal_in, outcome_of};
+ghost use Rattle.registers.specs.State.{is_normal, with_control};
 ghost use Rattle.registers.specs.Errors.{is_bus_off, moved_to, tec_less, rec_less};
 ghost use Rattle.receiving.specs.AnswerSets.{answer_set_to, answer_set_in, plain_answer};
 ghost use Rattle.image.specs.Image.{
-  image_size,
   control_of,
   core_of,
   Became,
-  Acted,
-  Answered,
   RefusedKept,
 };
 ghost use Rattle.controller.specs.Sending.{counted, sent_by};
@@ -38,41 +35,34 @@ ghost use Rattle.controller.specs.Events.{
   end_refusal,
   recovery_refusal,
   refusal_by,
-  event_refusal,
   event_of,
   outcome_told,
-  not_an_image,
 };
 
-use crate::sending::{choice_of, end, end_of, frame_sent, sent, tx_flag};
-use crate::{Choice, End};
-use image::{CANINTE, CANINTF, FLIGHT, MODE, PINS, REC, SIZE, TEC, TEC_HIGH, TXB0CTRL, TXRTSCTRL};
-use receiving::Reception;
-use records::{
-    ACCEPTED, Fields, Frame, Kind, Outcome, REFUSED_FIELD, REFUSED_IN_FLIGHT, REFUSED_NO_FLIGHT,
-    REFUSED_STATE,
+use crate::End;
+use crate::sending::{choice_of, end, frame_sent, sent, tx_flag};
+use image::control::{control_of, put_control, put_level, settle};
+use image::{
+    CANINTE, CANINTF, FLIGHT, Image, MODE, NO_FLIGHT, PINS, REC, TEC, TEC_HIGH, TXB0CTRL, TXRTSCTRL,
 };
-use registers::{Control, Flight, MERRF, Mode, TXREQ, TxBuffer, WAKIF};
+use receiving::{Reception, unheard, verdicts};
+use records::{Answer, Fields, Frame, Kind, Refusal};
+use registers::{Control, MERRF, Mode, TXREQ, TxBuffer, WAKIF};
 
-// The byte of no flight.
-const NO_FLIGHT: u8 = 3;
-
-// An answer stands in the low byte, and in the high byte a set where one is asked for.
-fn plain(answer: u8) -> u16
-    ensures { answer_set_in result ≡ plain_answer answer }
+// The answer to an event that asks no filter.
+fn plain(byte: u8) -> Answer
+    ensures { answer_set_in result ≡ plain_answer byte }
 {
-    records::paired(answer, 0)
+    Answer { byte, matched: 0 }
 }
 
-fn is_bus_off(image: &[u8]) -> bool
-    requires { length image.now ≡ image_size }
+fn is_bus_off(image: &Image) -> bool
     ensures { result ≡ is_bus_off (control_of image.now).counters }
 {
-    let control = image::control_of(image);
-    let counters = control.counters;
-    registers::is_bus_off(counters)
+    registers::is_bus_off(control_of(image).counters)
 }
 
+#[tactic(auto, unfolding(registers::specs::Modes::entered))]
 fn woken(control: Control) -> Control
     ensures { result ≡ woken_control control }
 {
@@ -82,81 +72,73 @@ fn woken(control: Control) -> Control
     next
 }
 
-fn sleep(image: &mut [u8]) -> Reception
-    requires { length image.old ≡ image_size }
+fn sleep(image: &mut Image) -> Reception
     ensures value { result ≡ (sleeping (core_of image.old)).answer }
     ensures became { Became image.old image.new (sleeping (core_of image.old)).core }
 {
     if image[CANINTE] / WAKIF % 2 == 1 {
-        let control = image::control_of(image);
-        image::put_control(image, woken(control));
+        let control = control_of(image);
+        put_control(image, woken(control));
         return Reception::Woke;
     }
     Reception::NotListening
 }
 
 // A good frame: REC falls, by which no error flag rises.
-fn count_good(image: &mut [u8])
-    requires { length image.old ≡ image_size }
+fn count_good(image: &mut Image)
     ensures { Became image.old image.new (with_control (core_of image.old) (moved_to (control_of image.old) (rec_less (control_of image.old).counters))) }
 {
     image[REC] = registers::heard_rec(image[REC]);
 }
 
-fn hear_normal(image: &mut [u8], frame: Frame, wanted: bool) -> u16
-    requires { length image.old ≡ image_size }
+fn hear_normal(image: &mut Image, frame: Frame, wanted: bool) -> Answer
     ensures result_value { answer_set_in result ≡ answer_set_to wanted (heard_in Mode.Normal (core_of image.old) frame) }
     ensures became { Became image.old image.new (heard_in Mode.Normal (core_of image.old) frame).core }
 {
     if is_bus_off(image) {
-        return receiving::unheard(Reception::NotListening);
+        return unheard(Reception::NotListening);
     }
-    let told = receiving::receive(image, frame, wanted);
+    let answer = verdicts::receive(image, frame, wanted);
     count_good(image);
-    told
+    answer
 }
 
-fn hear_only(image: &mut [u8], frame: Frame, wanted: bool) -> u16
-    requires { length image.old ≡ image_size }
+#[tactic(auto, using(crate::proofs::Acts::received, crate::proofs::Acts::plainly))]
+fn hear_only(image: &mut Image, frame: Frame, wanted: bool) -> Answer
     ensures result_value { answer_set_in result ≡ answer_set_to wanted (heard_in Mode.ListenOnly (core_of image.old) frame) }
     ensures became { Became image.old image.new (heard_in Mode.ListenOnly (core_of image.old) frame).core }
 {
     if is_bus_off(image) {
-        return receiving::unheard(Reception::NotListening);
+        return unheard(Reception::NotListening);
     }
-    receiving::receive(image, frame, wanted)
+    verdicts::receive(image, frame, wanted)
 }
 
-fn hear(image: &mut [u8], frame: Frame, wanted: bool) -> u16
-    requires { length image.old ≡ image_size }
+fn hear(image: &mut Image, frame: Frame, wanted: bool) -> Answer
     ensures result_value { answer_set_in result ≡ answer_set_to wanted (heard_of (core_of image.old) frame) }
     ensures became { Became image.old image.new (heard_of (core_of image.old) frame).core }
 {
-    let mode = image::mode_of(image[MODE]);
-    match mode {
+    match image::mode_of(image[MODE]) {
         Mode::Normal => hear_normal(image, frame, wanted),
-        Mode::Sleep => receiving::unheard(sleep(image)),
-        Mode::Loopback => receiving::unheard(Reception::NotListening),
+        Mode::Sleep => unheard(sleep(image)),
         Mode::ListenOnly => hear_only(image, frame, wanted),
-        Mode::Configuration => receiving::unheard(Reception::NotListening),
+        Mode::Loopback | Mode::Configuration => unheard(Reception::NotListening),
     }
 }
 
 // Loopback: the frame goes to the own receive rules.
-fn deliver(image: &mut [u8], buffer: TxBuffer, wanted: bool) -> u16
-    requires { length image.old ≡ image_size }
+fn deliver(image: &mut Image, buffer: TxBuffer, wanted: bool) -> Answer
     ensures result_value { answer_set_in result ≡ answer_set_of wanted (delivered (core_of image.old) buffer) }
     ensures became { Became image.old image.new (delivered (core_of image.old) buffer).core }
 {
     let own = frame_sent(image, buffer);
-    let control = image::control_of(image);
-    image::put_control(image, sent(control, buffer));
-    receiving::receive(image, own, wanted)
+    let control = control_of(image);
+    put_control(image, sent(control, buffer));
+    verdicts::receive(image, own, wanted)
 }
 
 // The buffer is sent: nothing is in flight any more.
-fn mark_sent(image: &mut [u8], buffer: TxBuffer)
-    requires { length image.old ≡ image_size }
+fn mark_sent(image: &mut Image, buffer: TxBuffer)
     ensures { Became image.old image.new (with_control (core_of image.old) (sent_by (control_of image.old) buffer)) }
 {
     let place = TXB0CTRL + (registers::tx_number(buffer) as usize);
@@ -166,22 +148,19 @@ fn mark_sent(image: &mut [u8], buffer: TxBuffer)
 }
 
 // In Normal TEC falls, by which no error flag rises.
-fn count_sent(image: &mut [u8])
-    requires { length image.old ≡ image_size }
+fn count_sent(image: &mut Image)
     ensures { Became image.old image.new (with_control (core_of image.old) (counted (control_of image.old) (tec_less (control_of image.old).counters))) }
 {
     if registers::is_normal(image::mode_of(image[MODE])) {
-        let control = image::control_of(image);
-        let tec = registers::less_one(control.counters.tec);
-        image[TEC] = (tec % 256) as u8;
-        image[TEC_HIGH] = (tec / 256) as u8;
-        return;
+        let [low, high] = registers::less_one(control_of(image).counters.tec).to_le_bytes();
+        image[TEC] = low;
+        image[TEC_HIGH] = high;
     }
 }
 
 // A frame that is sent, in place: most ends are this one.
-fn finish_sent(image: &mut [u8], buffer: TxBuffer) -> u16
-    requires { length image.old ≡ image_size }
+#[tactic(auto, using(crate::proofs::Acts::sent_counted))]
+fn finish_sent(image: &mut Image, buffer: TxBuffer) -> Answer
     ensures result_value { answer_set_in result ≡ plain_answer 0 }
     ensures became { Became image.old image.new (finished (core_of image.old) buffer End.Sent).core }
 {
@@ -190,71 +169,54 @@ fn finish_sent(image: &mut [u8], buffer: TxBuffer) -> u16
     plain(0)
 }
 
-fn finish_failed(image: &mut [u8], buffer: TxBuffer, outcome: End) -> u16
-    requires { length image.old ≡ image_size }
+// Apart, as the two below: acts that are rare, which within a run make it slower.
+#[inline(never)]
+#[tactic(auto, using(crate::proofs::Acts::packed))]
+fn finish_failed(image: &mut Image, buffer: TxBuffer, outcome: End) -> Answer
     ensures result_value { answer_set_in result ≡ plain_answer 0 }
     ensures became { Became image.old image.new (finished (core_of image.old) buffer outcome).core }
 {
-    let control = image::control_of(image);
-    image::put_control(image, end(outcome, control, buffer));
+    let control = control_of(image);
+    put_control(image, end(outcome, control, buffer));
     plain(0)
 }
 
-fn finish(image: &mut [u8], buffer: TxBuffer, outcome: End) -> u16
-    requires { length image.old ≡ image_size }
-    ensures result_value { answer_set_in result ≡ plain_answer 0 }
-    ensures became { Became image.old image.new (finished (core_of image.old) buffer outcome).core }
-{
-    match outcome {
-        End::Sent => finish_sent(image, buffer),
-        End::LostArbitration => finish_failed(image, buffer, outcome),
-        End::Failed => finish_failed(image, buffer, outcome),
-    }
-}
-
-fn finish_in(image: &mut [u8], loopback: bool, buffer: TxBuffer, outcome: End, wanted: bool) -> u16
-    requires { length image.old ≡ image_size }
+// In Loopback a frame that is sent comes back in.
+#[tactic(auto, using(crate::proofs::Acts::unsent, crate::proofs::Acts::plainly))]
+fn finish(image: &mut Image, loopback: bool, buffer: TxBuffer, outcome: End, wanted: bool) -> Answer
     ensures result_value { answer_set_in result ≡ answer_set_of wanted (ends_in loopback (core_of image.old) buffer outcome) }
     ensures became { Became image.old image.new (ends_in loopback (core_of image.old) buffer outcome).core }
 {
-    if loopback {
-        match outcome {
-            End::Sent => deliver(image, buffer, wanted),
-            End::LostArbitration => finish(image, buffer, outcome),
-            End::Failed => finish(image, buffer, outcome),
-        }
-    } else {
-        finish(image, buffer, outcome)
+    match outcome {
+        End::Sent if loopback => deliver(image, buffer, wanted),
+        End::Sent => finish_sent(image, buffer),
+        End::LostArbitration | End::Failed => finish_failed(image, buffer, outcome),
     }
 }
 
-fn end_flight(image: &mut [u8], number: u8, wanted: bool) -> u16
-    requires { length image.old ≡ image_size }
+fn end_flight(image: &mut Image, number: u8, wanted: bool) -> Answer
     ensures result_value { answer_set_in result ≡ answer_set_of wanted (ended (core_of image.old) number) }
     ensures became { Became image.old image.new (ended (core_of image.old) number).core }
 {
-    let flight = image::flight_of(image[FLIGHT]);
     let loopback = registers::is_loopback(image::mode_of(image[MODE]));
-    match flight {
-        Flight::Idle => plain(0),
-        Flight::Of(buffer) => finish_in(image, loopback, buffer, end_of(number), wanted),
+    match image::flight_of(image[FLIGHT]) {
+        None => plain(0),
+        Some(buffer) => finish(image, loopback, buffer, End::from(number), wanted),
     }
 }
 
-fn idle(image: &mut [u8]) -> u8
-    requires { length image.old ≡ image_size }
+#[tactic(auto, using(crate::proofs::Acts::flight_put), unfolding(crate::specs::Events::idled))]
+fn idle(image: &mut Image) -> u8
     ensures value { result ≡ (idled (core_of image.old)).answer }
     ensures became { Became image.old image.new (idled (core_of image.old)).core }
 {
-    let control = image::control_of(image);
-    let choice = choice_of(control);
-    match choice {
-        Choice::Send(buffer) => {
+    match choice_of(control_of(image)) {
+        Some(buffer) => {
             let number = registers::tx_number(buffer);
             image[FLIGHT] = number;
             number
         }
-        Choice::Nobody => 3,
+        None => NO_FLIGHT,
     }
 }
 
@@ -267,22 +229,18 @@ fn error_adds(number: u8) -> u8
 fn err(control: Control, by: u8) -> Control
     ensures { result ≡ erred control by }
 {
-    let canintf = control.flags.canintf | MERRF;
-    let counters = control.counters;
     let mut next = control;
-    next.flags.canintf = canintf;
-    registers::moved(next, registers::rec_more(counters, by))
+    next.flags.canintf |= MERRF;
+    registers::moved(next, registers::rec_more(control.counters, by))
 }
 
 fn counts_errors(control: Control) -> bool
     ensures { result ≡ is_normal control.state.mode && not (is_bus_off control.counters) }
 {
-    let state = control.state;
-    let mode = state.mode;
-    let counters = control.counters;
-    registers::is_normal(mode) & !registers::is_bus_off(counters)
+    registers::is_normal(control.state.mode) & !registers::is_bus_off(control.counters)
 }
 
+#[tactic(auto, unfolding(crate::specs::Events::error_heard))]
 fn error_heard(control: Control, number: u8) -> Control
     ensures { result ≡ error_heard control number }
 {
@@ -293,14 +251,13 @@ fn error_heard(control: Control, number: u8) -> Control
     }
 }
 
-fn hear_error(image: &mut [u8], number: u8) -> u8
-    requires { length image.old ≡ image_size }
-    ensures value { result ≡ 0 }
-    ensures became { Became image.old image.new (with_control (core_of image.old) (error_heard (control_of image.old) number)) }
+#[inline(never)]
+#[tactic(auto, using(crate::proofs::Acts::packed))]
+fn hear_error(image: &mut Image, number: u8)
+    ensures { Became image.old image.new (with_control (core_of image.old) (error_heard (control_of image.old) number)) }
 {
-    let control = image::control_of(image);
-    image::put_control(image, error_heard(control, number));
-    0
+    let control = control_of(image);
+    put_control(image, error_heard(control, number));
 }
 
 fn with_no_errors(control: Control) -> Control
@@ -311,29 +268,24 @@ fn with_no_errors(control: Control) -> Control
     next
 }
 
-fn recover(image: &mut [u8]) -> u8
-    requires { length image.old ≡ image_size }
-    ensures value { result ≡ 0 }
-    ensures became { Became image.old image.new (with_control (core_of image.old) (recovered (control_of image.old))) }
+#[inline(never)]
+#[tactic(auto, using(crate::proofs::Acts::packed))]
+fn recover(image: &mut Image)
+    ensures { Became image.old image.new (with_control (core_of image.old) (recovered (control_of image.old))) }
 {
-    let control = image::control_of(image);
-    image::put_control(image, with_no_errors(control));
-    0
+    let control = control_of(image);
+    put_control(image, with_no_errors(control));
 }
 
 fn pin_of(number: u8) -> TxBuffer
     ensures { result ≡ pin_of number }
 {
-    match number {
-        0 => TxBuffer::Txb0,
-        1 => TxBuffer::Txb1,
-        _ => TxBuffer::Txb2,
-    }
+    TxBuffer::try_from(number).unwrap_or(TxBuffer::Txb2)
 }
 
 // A fall of a request pin that TXRTSCTRL enables.
-fn falls_enabled(image: &[u8], buffer: TxBuffer, high: bool) -> bool
-    requires { length image.now ≡ image_size }
+#[tactic(auto, using(crate::proofs::Acts::pin_falls, image::proofs::Laws::tx_below))]
+fn falls_enabled(image: &Image, buffer: TxBuffer, high: bool) -> bool
     ensures { result ≡ falls_enabled (core_of image.now) buffer high }
 {
     let number = registers::tx_number(buffer);
@@ -342,136 +294,113 @@ fn falls_enabled(image: &[u8], buffer: TxBuffer, high: bool) -> bool
 }
 
 // Such a fall requests the buffer as RTS does.
-fn request_by_pin(image: &mut [u8], buffer: TxBuffer, high: bool)
-    requires { length image.old ≡ image_size }
+#[tactic(auto, using(crate::proofs::Acts::pin_requested_lem, crate::proofs::Acts::pin_idle))]
+fn request_by_pin(image: &mut Image, buffer: TxBuffer, high: bool)
     ensures { Became image.old image.new (pin_requested (core_of image.old) buffer high) }
 {
     if falls_enabled(image, buffer, high) {
-        stores::request_one(image, buffer);
-        return;
+        stores::bytes::request_one(image, buffer);
     }
 }
 
 // The level of a request pin.
-fn move_pin(image: &mut [u8], fields: Fields) -> u8
-    requires { length image.old ≡ image_size }
-    ensures value { result ≡ 0 }
-    ensures became { Became image.old image.new (pinned (core_of image.old) (record_of fields)) }
+#[tactic(auto, using(crate::proofs::Acts::pin_moved_lem), unfolding(crate::specs::Events::pinned, records::specs::Records::record_of))]
+fn move_pin(image: &mut Image, fields: Fields)
+    ensures { Became image.old image.new (pinned (core_of image.old) (record_of fields)) }
 {
     let buffer = pin_of(fields.field);
     let high = fields.code != 0;
     request_by_pin(image, buffer, high);
-    image::put_level(image, buffer, high);
-    0
-}
-
-fn hear_frame(image: &mut [u8], fields: Fields, wanted: bool) -> u16
-    requires { length image.old ≡ image_size }
-    ensures result_value { answer_set_in result ≡ answer_set_of wanted (happens_by Kind.FrameHeard (core_of image.old) (record_of fields)) }
-    ensures became { Became image.old image.new (happens_by Kind.FrameHeard (core_of image.old) (record_of fields)).core }
-{
-    hear(image, records::frame_of(fields), wanted)
+    put_level(image, buffer, high);
 }
 
 // An accepted event.
-fn happen(image: &mut [u8], kind: Kind, fields: Fields, wanted: bool) -> u16
-    requires { length image.old ≡ image_size }
-    ensures result_value { answer_set_in result ≡ answer_set_of wanted (happens_by kind (core_of image.old) (record_of fields)) }
-    ensures became { Became image.old image.new (happens_by kind (core_of image.old) (record_of fields)).core }
+#[tactic(auto, using(crate::proofs::Acts::plainly), unfolding(crate::specs::Events::idled, records::specs::Records::record_of))]
+fn happen(image: &mut Image, kind: Kind, fields: Fields, wanted: bool) -> Answer
+    ensures result_value { answer_set_in result ≡ answer_set_of wanted (happens_by (Some kind) (core_of image.old) (record_of fields)) }
+    ensures became { Became image.old image.new (happens_by (Some kind) (core_of image.old) (record_of fields)).core }
 {
     match kind {
-        Kind::SelectLow => plain(0),
-        Kind::Exchange => plain(0),
-        Kind::SelectHigh => plain(0),
-        Kind::FrameHeard => hear_frame(image, fields, wanted),
+        Kind::SelectLow | Kind::Exchange | Kind::SelectHigh => plain(0),
+        Kind::FrameHeard => hear(image, records::frame_of(fields), wanted),
         Kind::BusIdle => plain(idle(image)),
         Kind::FrameEnds => end_flight(image, fields.field, wanted),
-        Kind::ReceiveError => plain(hear_error(image, fields.field)),
-        Kind::Recovery => plain(recover(image)),
-        Kind::PinLevel => plain(move_pin(image, fields)),
-        Kind::Unknown => plain(0),
+        Kind::ReceiveError => {
+            hear_error(image, fields.field);
+            plain(0)
+        }
+        Kind::Recovery => {
+            recover(image);
+            plain(0)
+        }
+        Kind::PinLevel => {
+            move_pin(image, fields);
+            plain(0)
+        }
     }
 }
 
-fn is_idle(control: Control) -> bool
-    ensures { result ≡ is_idle control.state.flight }
+// A frame, bus idle and a receive error come while no own frame is in flight.
+fn check_idle(control: Control) -> Result<(), Refusal>
+    ensures { refusal_in result ≡ busy_refusal control }
 {
-    let state = control.state;
-    let flight = state.flight;
-    registers::is_idle(flight)
+    if registers::is_idle(control.state.flight) {
+        Ok(())
+    } else {
+        Err(Refusal::InFlight)
+    }
 }
 
-fn refuse_busy(control: Control) -> u8
-    ensures { result ≡ busy_refusal control }
+// In Loopback no own frame is lost and none fails.
+fn check_end(control: Control, number: u8) -> Result<(), Refusal>
+    ensures { refusal_in result ≡ end_refusal control number }
 {
-    bits::choose(is_idle(control), ACCEPTED, REFUSED_IN_FLIGHT)
+    if registers::is_idle(control.state.flight) {
+        Err(Refusal::NoFlight)
+    } else if registers::is_loopback(control.state.mode) & (number != 0) {
+        Err(Refusal::State)
+    } else {
+        Ok(())
+    }
 }
 
-fn refuse_end(control: Control, number: u8) -> u8
-    ensures { result ≡ end_refusal control number }
+fn check_recovery(control: Control) -> Result<(), Refusal>
+    ensures { refusal_in result ≡ recovery_refusal control }
 {
-    let state = control.state;
-    let mode = state.mode;
-    let loopback = registers::is_loopback(mode);
-    bits::choose(
-        is_idle(control),
-        REFUSED_NO_FLIGHT,
-        bits::choose(loopback & (number != 0), REFUSED_STATE, ACCEPTED),
-    )
+    if registers::is_bus_off(control.counters) {
+        Ok(())
+    } else {
+        Err(Refusal::State)
+    }
 }
 
-fn refuse_recovery(control: Control) -> u8
-    ensures { result ≡ recovery_refusal control }
-{
-    let counters = control.counters;
-    bits::choose(registers::is_bus_off(counters), ACCEPTED, REFUSED_STATE)
-}
-
-fn refuse_by(kind: Kind, control: Control, fields: Fields) -> u8
-    ensures { result ≡ refusal_by kind control (record_of fields) }
+// Whether the state lets an event of this kind happen.
+#[tactic(auto, unfolding(records::specs::Records::record_of))]
+fn check(kind: Kind, control: Control, fields: Fields) -> Result<(), Refusal>
+    ensures { refusal_in result ≡ refusal_by (Some kind) control (record_of fields) }
 {
     match kind {
-        Kind::SelectLow => REFUSED_FIELD,
-        Kind::Exchange => REFUSED_FIELD,
-        Kind::SelectHigh => REFUSED_FIELD,
-        Kind::FrameHeard => refuse_busy(control),
-        Kind::BusIdle => refuse_busy(control),
-        Kind::FrameEnds => refuse_end(control, fields.field),
-        Kind::ReceiveError => refuse_busy(control),
-        Kind::Recovery => refuse_recovery(control),
-        Kind::PinLevel => ACCEPTED,
-        Kind::Unknown => REFUSED_FIELD,
+        Kind::SelectLow | Kind::Exchange | Kind::SelectHigh => Err(Refusal::Field),
+        Kind::FrameHeard | Kind::BusIdle | Kind::ReceiveError => check_idle(control),
+        Kind::FrameEnds => check_end(control, fields.field),
+        Kind::Recovery => check_recovery(control),
+        Kind::PinLevel => Ok(()),
     }
 }
 
-fn refuse(control: Control, fields: Fields) -> u8
-    ensures { result ≡ event_refusal control (record_of fields) }
+// One event: refused, it changes nothing. The set is worked out where it is asked for, else it is 0; that it is wanted is an argument and no
+// const parameter, since the callers of `controller::event` say it as they run.
+pub fn event(image: &mut Image, fields: Fields, wanted: bool) -> Result<Answer, Refusal>
+    ensures told { outcome_of result ≡ outcome_told wanted (event_of (core_of image.old) (record_of fields)) }
+    ensures became { Became image.old image.new (event_of (core_of image.old) (record_of fields)).core }
+    ensures refused_kept { RefusedKept (refusal_in result) image.old image.new }
 {
-    if records::is_sound(fields) {
-        refuse_by(records::kind_by(fields.kind), control, fields)
-    } else {
-        REFUSED_FIELD
+    let kind = Kind::try_from(fields.kind)?;
+    if !records::is_sound(fields) {
+        return Err(Refusal::Field);
     }
-}
-
-// One event: refused, it changes nothing. The set is worked out where it is asked for, else it is 0.
-pub fn event(image: &mut [u8], fields: Fields, wanted: bool) -> Outcome
-    ensures answered { Answered image.old result (outcome_told wanted (event_of (core_of image.old) (record_of fields))) not_an_image }
-    ensures acted { Acted image.old image.new (event_of (core_of image.old) (record_of fields)).core }
-    ensures refused_kept { RefusedKept result.refusal image.old image.new }
-{
-    if image.len() != SIZE {
-        return records::refused(REFUSED_FIELD);
-    }
-    let refusal = refuse(image::control_of(image), fields);
-    if refusal != ACCEPTED {
-        return records::refused(refusal);
-    }
-    let told = happen(image, records::kind_by(fields.kind), fields, wanted);
-    image::settle(image);
-    Outcome {
-        refusal: ACCEPTED,
-        answer: (told % 256) as u8,
-        matched: (told / 256) as u8,
-    }
+    check(kind, control_of(image), fields)?;
+    let answer = happen(image, kind, fields, wanted);
+    settle(image);
+    Ok(answer)
 }

@@ -1,20 +1,14 @@
 // Events: on the CAN side a frame, bus idle, the end of an own frame, a receive error, recovery, the level of a request pin.
 #![tactic(auto)]
 
-mod events;
+pub mod events;
 mod sending;
+mod slices;
 
-pub use events::event;
-
-// The buffer that is sent at bus idle.
-#[derive(Clone, Copy)]
-pub enum Choice {
-    Send(registers::TxBuffer),
-    Nobody,
-}
+pub use slices::event;
 
 // How an own frame ends.
-#[derive(Clone, Copy)]
+#[derive(Clone, Copy, Debug, PartialEq, Eq)]
 pub enum End {
     Sent,
     LostArbitration,

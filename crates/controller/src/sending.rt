@@ -1,8 +1,8 @@
 // The choice at bus idle and the ends of an own frame.
-ghost use Rattle.std.specs.Prelude.{◌≡◌, ◌&&◌, ◌+◌, ◌*◌, ◌%◌, ◌≤◌, max, length, take, drop};
+ghost use Rattle.std.specs.Prelude.{◌≡◌, ◌&&◌, ◌+◌, ◌*◌, ◌%◌, ◌≤◌, length, take, drop};
 ghost use Rattle.image.specs.Image.{image_size};
-ghost use Rattle.bits.specs.Bit.{has_bit, set_bit};
-ghost use Rattle.registers.specs.State.{osm_bit, is_normal, tx_flag, with_flight, with_canintf};
+ghost use Rattle.bits.specs.Bit.{set_bit};
+ghost use Rattle.registers.specs.State.{tx_flag, with_flight, with_canintf};
 ghost use Rattle.registers.specs.Modes.{waits};
 ghost use Rattle.controller.specs.Sending.{
   rank_of,
@@ -10,7 +10,7 @@ ghost use Rattle.controller.specs.Sending.{
   best_of,
   may_send,
   choice_of,
-  end_of,
+  IsEnd,
   counted,
   after_failure,
   with_ctrl,
@@ -24,11 +24,11 @@ ghost use Rattle.controller.specs.Sending.{
   frame_sent,
 };
 
-use crate::{Choice, End};
+use crate::End;
+use image::Image;
 use records::Frame;
 use registers::{
-    ABTF, Control, Counters, EXIDE, Flight, MLOA, OSM, RTR, State, TXERR, TXREQ, TxBuffer,
-    TxControl,
+    ABTF, Control, Counters, EXIDE, MLOA, OSM, RTR, TXERR, TXREQ, TxBuffer, TxControl,
 };
 
 fn rank(ctrl: u8) -> u8
@@ -41,27 +41,20 @@ fn rank(ctrl: u8) -> u8
     }
 }
 
-fn larger(a: u8, b: u8) -> u8
-    ensures { result ≡ max a b }
-{
-    if a <= b { b } else { a }
-}
-
 // By the ranks; of equal ones the later buffer.
 fn best_by(x: u8, y: u8, z: u8) -> TxBuffer
     ensures { result ≡ best_by x y z }
 {
-    let most = larger(x, y);
-    if most <= z {
-        return TxBuffer::Txb2;
-    }
-    if x <= y {
+    if x.max(y) <= z {
+        TxBuffer::Txb2
+    } else if x <= y {
         TxBuffer::Txb1
     } else {
         TxBuffer::Txb0
     }
 }
 
+#[tactic(auto, unfolding(crate::specs::Sending::best_of))]
 fn best_of(tx: TxControl) -> TxBuffer
     ensures { result ≡ best_of tx }
 {
@@ -71,111 +64,87 @@ fn best_of(tx: TxControl) -> TxBuffer
 fn may_send(control: Control) -> bool
     ensures { result ≡ may_send control }
 {
-    let state = control.state;
-    let mode = state.mode;
-    let counters = control.counters;
-    registers::sends_in(mode) & !registers::is_bus_off(counters)
+    registers::sends_in(control.state.mode) & !registers::is_bus_off(control.counters)
 }
 
 fn has_turn(control: Control) -> bool
     ensures { result ≡ may_send control && waits control.tx }
 {
-    let tx = control.tx;
-    may_send(control) & registers::waits_in(tx)
+    may_send(control) & registers::waits_in(control.tx)
 }
 
-pub fn choice_of(control: Control) -> Choice
+// The buffer that is sent at bus idle.
+#[tactic(auto, unfolding(crate::specs::Sending::choice_of))]
+pub fn choice_of(control: Control) -> Option<TxBuffer>
     ensures { result ≡ choice_of control }
 {
-    let tx = control.tx;
     if has_turn(control) {
-        Choice::Send(best_of(tx))
+        Some(best_of(control.tx))
     } else {
-        Choice::Nobody
+        None
     }
 }
 
-fn with_flight(control: Control, flight: Flight) -> Control
+fn with_flight(control: Control, flight: Option<TxBuffer>) -> Control
     ensures { result ≡ with_flight control flight }
 {
-    let state = control.state;
-    let mode = state.mode;
-    let request = state.request;
-    let changed = State {
-        mode,
-        flight,
-        request,
-    };
     let mut next = control;
-    next.state = changed;
+    next.state.flight = flight;
     next
 }
 
-pub fn end_of(number: u8) -> End
-    ensures { result ≡ end_of number }
-{
-    if number == 0 {
-        End::Sent
-    } else if number == 1 {
-        End::LostArbitration
-    } else {
-        End::Failed
-    }
-}
+// How an own frame ends, by its number in the record.
+impl From<u8> for End {
+    ghost from_gives = { IsEnd };
 
-fn is_normal(control: Control) -> bool
-    ensures { result ≡ is_normal control.state.mode }
-{
-    let state = control.state;
-    let mode = state.mode;
-    registers::is_normal(mode)
+    fn from(number: u8) -> End {
+        match number {
+            0 => End::Sent,
+            1 => End::LostArbitration,
+            _ => End::Failed,
+        }
+    }
 }
 
 // The counters move in Normal alone.
 fn count(control: Control, counters: Counters) -> Control
     ensures { result ≡ counted control counters }
 {
-    if is_normal(control) {
+    if registers::is_normal(control.state.mode) {
         registers::moved(control, counters)
     } else {
         control
     }
 }
 
-fn is_one_shot(control: Control) -> bool
-    ensures { result ≡ has_bit control.flags.canctrl osm_bit }
-{
-    let canctrl = control.flags.canctrl;
-    canctrl / OSM % 2 == 1
-}
-
 // TXBnCTRL after a failed attempt.
+#[tactic(auto, unfolding(crate::specs::Sending::after_failure))]
 fn after_failure(control: Control, ctrl: u8) -> u8
     ensures { result ≡ after_failure control ctrl }
 {
-    bits::choose(
-        registers::aborts_all(control),
-        (ctrl & !TXREQ) | ABTF,
-        bits::choose(is_one_shot(control), ctrl & !TXREQ, ctrl),
-    )
+    if registers::aborts_all(control) {
+        (ctrl & !TXREQ) | ABTF
+    } else if control.flags.canctrl / OSM % 2 == 1 {
+        ctrl & !TXREQ
+    } else {
+        ctrl
+    }
 }
 
 // TXBnCTRL of the buffer that was in flight; nothing is in flight any more.
 fn with_ctrl(control: Control, buffer: TxBuffer, value: u8) -> Control
     ensures { result ≡ with_ctrl control buffer value }
 {
-    let tx = control.tx;
     let mut next = control;
-    next.tx = registers::with_tx_control(tx, buffer, value);
-    with_flight(next, Flight::Idle)
+    next.tx = registers::with_tx_control(control.tx, buffer, value);
+    with_flight(next, None)
 }
 
 fn with_flag(control: Control, bit: u8) -> Control
     ensures { result ≡ with_canintf control (set_bit control.flags.canintf bit) }
 {
-    let canintf = bits::set(control.flags.canintf, bit);
     let mut next = control;
-    next.flags.canintf = canintf;
+    next.flags.canintf = bits::set(control.flags.canintf, bit);
     next
 }
 
@@ -189,27 +158,27 @@ pub fn tx_flag(buffer: TxBuffer) -> u8
     }
 }
 
+#[tactic(auto, unfolding(crate::specs::Sending::sent_by))]
 pub fn sent(control: Control, buffer: TxBuffer) -> Control
     ensures { result ≡ sent_by control buffer }
 {
-    let tx = control.tx;
-    let ctrl = registers::tx_control(tx, buffer);
+    let ctrl = registers::tx_control(control.tx, buffer);
     with_flag(with_ctrl(control, buffer, ctrl & !TXREQ), tx_flag(buffer))
 }
 
+#[tactic(auto, unfolding(crate::specs::Sending::lost_by))]
 fn lost(control: Control, buffer: TxBuffer) -> Control
     ensures { result ≡ lost_by control buffer }
 {
-    let tx = control.tx;
-    let ctrl = registers::tx_control(tx, buffer);
+    let ctrl = registers::tx_control(control.tx, buffer);
     with_ctrl(control, buffer, after_failure(control, ctrl | MLOA))
 }
 
+#[tactic(auto, unfolding(crate::specs::Sending::failed_by))]
 fn failed(control: Control, buffer: TxBuffer) -> Control
     ensures { result ≡ failed_by control buffer }
 {
-    let tx = control.tx;
-    let ctrl = registers::tx_control(tx, buffer);
+    let ctrl = registers::tx_control(control.tx, buffer);
     with_flag(
         with_ctrl(control, buffer, after_failure(control, ctrl | TXERR)),
         7,
@@ -219,11 +188,13 @@ fn failed(control: Control, buffer: TxBuffer) -> Control
 pub fn end(end: End, control: Control, buffer: TxBuffer) -> Control
     ensures { result ≡ ended_by end control buffer }
 {
-    let counters = control.counters;
     match end {
-        End::Sent => count(sent(control, buffer), registers::tec_less(counters)),
+        End::Sent => count(sent(control, buffer), registers::tec_less(control.counters)),
         End::LostArbitration => lost(control, buffer),
-        End::Failed => count(failed(control, buffer), registers::tec_more(counters)),
+        End::Failed => count(
+            failed(control, buffer),
+            registers::tec_more(control.counters),
+        ),
     }
 }
 
@@ -248,23 +219,15 @@ fn identifier_sent(extended: bool, sidh: u8, sidl: u8, eid8: u8, eid0: u8) -> u3
 }
 
 // The message in the buffer whose bytes start at `at` of the image.
-fn frame_at(image: &[u8], at: usize) -> Frame
-    requires { (length image.now ≡ image_size) × (at ≤ 80) }
+fn frame_at(image: &Image, at: usize) -> Frame
+    requires { at ≤ 80 }
     ensures { result ≡ frame_at image.now at }
 {
     let sidl = image[at + 2];
     let dlc = image[at + 5];
     let extended = sidl / EXIDE % 2 == 1;
-    let bytes = [
-        image[at + 6],
-        image[at + 7],
-        image[at + 8],
-        image[at + 9],
-        image[at + 10],
-        image[at + 11],
-        image[at + 12],
-        image[at + 13],
-    ];
+    let mut bytes = [0; 8];
+    bytes.copy_from_slice(&image[at + 6..at + 14]);
     Frame {
         extended,
         remote: dlc / RTR % 2 == 1,
@@ -275,8 +238,7 @@ fn frame_at(image: &[u8], at: usize) -> Frame
 }
 
 // The frame that a buffer sends.
-pub fn frame_sent(image: &[u8], buffer: TxBuffer) -> Frame
-    requires { length image.now ≡ image_size }
+pub fn frame_sent(image: &Image, buffer: TxBuffer) -> Frame
     ensures { result ≡ frame_sent (take 48 (drop 48 image.now)) buffer }
 {
     match buffer {

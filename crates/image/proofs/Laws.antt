@@ -13,10 +13,7 @@ use Rattle.registers.specs.declared.Mode.{Mode}
 use Rattle.registers.specs.declared.Mode.TheVariants.{Normal, Sleep, Loopback, ListenOnly, Configuration}
 use Rattle.registers.specs.declared.TxBuffer.{TxBuffer}
 use Rattle.registers.specs.declared.TxBuffer.TheVariants.{Txb0, Txb1, Txb2}
-use Rattle.registers.specs.declared.Flight.{Flight}
-use Rattle.registers.specs.declared.Flight.TheVariants.{Idle, Of}
-use Rattle.registers.specs.declared.Request.{Request}
-use Rattle.registers.specs.declared.Request.TheVariants.{Nothing, Wanted}
+use Rattle.std.specs.Prelude.{Option, Some, None}
 use Rattle.registers.specs.declared.Control.{Control}
 use Rattle.registers.specs.declared.Pins.{Pins}
 use Rattle.registers.specs.declared.Core.{Core}
@@ -24,7 +21,7 @@ use Rattle.registers.specs.State.{mode_number, tx_number, with_control, with_con
 use Rattle.registers.specs.Registers.{region_of, first_control, is_kept, kept_from, reset_core}
 use Rattle.registers.proofs.Kept.{kept_length, kept_take, kept_drop, kept_snoc}
 use Rattle.registers.specs.Modes.{requested, settled}
-use Rattle.image.specs.Image.{image_size, pins_at, select_at, version_at, version, is_chip, mode_of, flight_of, flight_number, request_number, decoded, control_of, encoded, pins_of, level_byte, core_of, Became, Acted, Answered}
+use Rattle.image.specs.Image.{image_size, pins_at, select_at, version_at, version, is_chip, mode_of, flight_of, flight_number, request_number, decoded, control_of, encoded, pins_of, level_byte, core_of, Became}
 
 -- ---- the enums come back out of their bytes
 pub mode_back : (m : Mode) → mode_of (mode_number m) ≡ m
@@ -34,19 +31,19 @@ mode_back Loopback = refl
 mode_back ListenOnly = refl
 mode_back Configuration = refl
 
-pub flight_back : (f : Flight) → flight_of (flight_number f) ≡ f
-flight_back Idle = refl
-flight_back (Of Txb0) = refl
-flight_back (Of Txb1) = refl
-flight_back (Of Txb2) = refl
+pub flight_back : (f : Option TxBuffer) → flight_of (flight_number f) ≡ f
+flight_back None = refl
+flight_back (Some Txb0) = refl
+flight_back (Some Txb1) = refl
+flight_back (Some Txb2) = refl
 
-pub request_back : (q : Request) → requested (request_number q) ≡ q
-request_back Nothing = refl
-request_back (Wanted Normal) = refl
-request_back (Wanted Sleep) = refl
-request_back (Wanted Loopback) = refl
-request_back (Wanted ListenOnly) = refl
-request_back (Wanted Configuration) = refl
+pub request_back : (q : Option Mode) → requested (request_number q) ≡ q
+request_back None = refl
+request_back (Some Normal) = refl
+request_back (Some Sleep) = refl
+request_back (Some Loopback) = refl
+request_back (Some ListenOnly) = refl
+request_back (Some Configuration) = refl
 
 -- ---- the bytes by their index, after a change of one
 abbrev pub bytes : List ℕ → ℕ → ℕ
@@ -232,34 +229,13 @@ pin_put m b high e =
 pub followed : {m n p : List ℕ} {k : Core} (f : Core → Core) → Became m n k → Became n p (f (core_of n)) → Became m p (f k)
 followed {m} {n} {p} {k} f x y = record { size = y.size; core = y.core ∙ ap f x.core; rest = y.rest ∙ x.rest }
 
--- ---- what a call on lent bytes promises, by the test of their length
-pub acted : {m n : List ℕ} {k : Core} → length m ≡ image_size → Became m n k → Acted m n k
-acted e w = record { image = λ _. w; other = λ h. absurd (h e) }
-
-pub passed : {m : List ℕ} {k : Core} → (length m ≡ image_size → ⊥) → Acted m m k
-passed h = record { image = λ e. absurd (h e); other = λ _. refl }
-
 -- the three levels put in one after the other
-pub pins_in : {m n p q : List ℕ} (x y z : Bool) → Acted m n (with_pins (core_of m) (with_level (pins_of m) Txb0 x))
-    → Acted n p (with_pins (core_of n) (with_level (pins_of n) Txb1 y)) → Acted p q (with_pins (core_of p) (with_level (pins_of p) Txb2 z))
-    → Acted m q (with_pins (core_of m) (record { tx0rts = x; tx1rts = y; tx2rts = z }))
-pins_in {m} {n} {p} {q} x y z a b c =
-    record {
-      image = λ e.
-          let one = a.image e in
-          let two = followed (λ (k : Core). with_pins k (with_level k.pins Txb1 y)) one (b.image one.size) in
-          followed (λ (k : Core). with_pins k (with_level k.pins Txb2 z)) two (c.image two.size);
-      other = λ h.
-          let one : n ≡ m = a.other h in
-          let two : p ≡ m = b.other (λ e. h (sym (ap length one) ∙ e)) ∙ one in
-          c.other (λ e. h (sym (ap length two) ∙ e)) ∙ two;
-    }
-
-pub answered : {A : Type 0} {m : List ℕ} {r a o : A} → length m ≡ image_size → r ≡ a → Answered m r a o
-answered e p = record { image = λ _. p; other = λ h. absurd (h e) }
-
-pub unanswered : {A : Type 0} {m : List ℕ} {r a o : A} → (length m ≡ image_size → ⊥) → r ≡ o → Answered m r a o
-unanswered h p = record { image = λ e. absurd (h e); other = λ _. p }
+pub pins_in : {m n p q : List ℕ} (x y z : Bool) → Became m n (with_pins (core_of m) (with_level (pins_of m) Txb0 x))
+    → Became n p (with_pins (core_of n) (with_level (pins_of n) Txb1 y)) → Became p q (with_pins (core_of p) (with_level (pins_of p) Txb2 z))
+    → Became m q (with_pins (core_of m) (record { tx0rts = x; tx1rts = y; tx2rts = z }))
+pins_in x y z a b c =
+    let two = followed (λ (k : Core). with_pins k (with_level k.pins Txb1 y)) a b in
+    followed (λ (k : Core). with_pins k (with_level k.pins Txb2 z)) two c
 
 -- ---- RESET of the bytes before i, with the rest as it was
 abbrev pub reset_to : ℕ → List ℕ → List ℕ
@@ -307,15 +283,14 @@ reset_part m e n a h =
 
 -- with these bytes and the first control registers put in, the core is that of RESET
 pub reset_core_lem : (m n p : List ℕ) (c : Control) → length m ≡ image_size → n ≡ reset_to 128 m → c ≡ first_control
-    → Acted n p (with_control (core_of n) c) → Became m p (reset_core (core_of m))
+    → Became n p (with_control (core_of n) c) → Became m p (reset_core (core_of m))
 unfolding reset_core
-reset_core_lem m n p c e q f w =
+reset_core_lem m n p c e q f b =
     let k : List ℕ = kept_from 0 (take 128 m) in
     let size : length (reset_to 128 m) ≡ image_size = length_front m k 128 (kept_length 0 (take 128 m)) ∙ e in
     let behind : drop 128 (reset_to 128 m) ≡ drop 128 m = drop_at k (drop 128 m) 128 (front 128 m (omega (arith, e))) in
     let pin : (i : ℕ) → get_or (reset_to 128 m) (128 + i) 0 ≡ get_or m (128 + i) 0 =
     λ i. sym (get_or-drop 128 (reset_to 128 m) i 0) ∙ ap (λ (l : List ℕ). get_or l i 0) behind ∙ get_or-drop 128 m i 0 in
-    let b : Became n p (with_control (core_of n) c) = w.image (ap length q ∙ size) in
     record {
       size = b.size;
       core = b.core ∙ rw (q, f, reset_part m e 48 0 (omega arith), reset_part m e 48 48 (omega arith), reset_part m e 32 96 (omega arith), pin 15, pin 16, pin 17) refl;
@@ -323,7 +298,7 @@ reset_core_lem m n p c e q f w =
     }
 
 -- ---- a request for nothing is not carried out
-unrequested : (n : ℕ) → 7 ≤ n → requested n ≡ Nothing
+unrequested : (n : ℕ) → 7 ≤ n → requested n ≡ None
 unrequested n h =
     simp (ne_eqb n 0 (λ e. omega arith), ne_eqb n 1 (λ e. omega arith), ne_eqb n 2 (λ e. omega arith), ne_eqb n 3 (λ e. omega arith), ne_eqb n 4 (λ e. omega arith))
 
@@ -335,13 +310,9 @@ pub no_request : (m : List ℕ) → length m ≡ image_size → 7 ≤ get_or m 1
 no_request m e h = record { size = e; core = ap (λ (c : Control). with_control (core_of m) c) (sym (settled_idle m h)); rest = refl }
 
 -- ---- the control registers taken out, passed through f and put back
-pub changed_by : {m n : List ℕ} {c d : Control} (f : Control → Control) → Answered m c (control_of m) first_control → d ≡ f c
-    → Acted m n (with_control (core_of m) d) → Acted m n (with_control (core_of m) (f (control_of m)))
-changed_by {m} {n} f a p w =
-    record {
-      image = λ e. subst (λ (x : Control). Became m n (with_control (core_of m) x)) (p ∙ ap f (a.image e)) (w.image e);
-      other = w.other;
-    }
+pub changed_by : {m n : List ℕ} {c d : Control} (f : Control → Control) → c ≡ control_of m → d ≡ f c
+    → Became m n (with_control (core_of m) d) → Became m n (with_control (core_of m) (f (control_of m)))
+changed_by {m} {n} f a p w = subst (λ (x : Control). Became m n (with_control (core_of m) x)) (p ∙ ap f a) w
 
 -- ---- bytes that are a chip
 both : (a b : Bool) → a && b ≡ true → (a ≡ true) × (b ≡ true)

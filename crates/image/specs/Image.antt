@@ -1,19 +1,16 @@
 -- The chip as bytes at fixed places: 00h to 7Fh at their addresses, behind them the control registers, one to a byte and TEC in two, the
 -- levels of the request pins, then the select line. Any bytes of this length stand for a core: a decoder has an answer for every byte.
-use Rattle.std.specs.Prelude.{ℕ, ◌+◌, ◌*◌, ◌/◌, ◌%◌, Bool, true, false, cond, not, ◌&&◌, ◌≡◌, List, [], ◌∷◌, ◌++◌, eqb, length, get_or, take, drop, replicate}
+use Rattle.std.specs.Prelude.{ℕ, ◌+◌, ◌*◌, ◌/◌, ◌%◌, Bool, true, false, cond, not, ◌&&◌, ◌≡◌, List, [], ◌∷◌, ◌++◌, eqb, length, get_or, take, drop, replicate, Option, Some, None, IfSome}
+use Rattle.std.specs.Borrow.{LendsIf, Bor, MutBor, Fml, Array, u8}
 use Rattle.registers.specs.declared.Mode.{Mode}
 use Rattle.registers.specs.declared.Mode.TheVariants.{Normal, Sleep, Loopback, ListenOnly, Configuration}
-use Rattle.registers.specs.declared.TxBuffer.TheVariants.{Txb0, Txb1, Txb2}
-use Rattle.registers.specs.declared.Flight.{Flight}
-use Rattle.registers.specs.declared.Flight.TheVariants.{Idle, Of}
-use Rattle.registers.specs.declared.Request.{Request}
-use Rattle.registers.specs.declared.Request.TheVariants.{Nothing, Wanted}
+use Rattle.registers.specs.declared.TxBuffer.{TxBuffer}
 use Rattle.registers.specs.declared.Control.{Control}
 use Rattle.registers.specs.declared.Pins.{Pins}
 use Rattle.registers.specs.declared.Core.{Core}
 use Rattle.registers.specs.declared.Region.{Region}
 use Rattle.registers.specs.declared.Region.TheVariants.{Filters, Masks, Configured, Bfpctrl, Txrtsctrl, Tec, Rec, Caninte, Canintf, Eflg, Canstat, Canctrl, TxCtrl, TxMessage, RxCtrl, RxMessage}
-use Rattle.registers.specs.State.{mode_number, tx_number, rx_flag}
+use Rattle.registers.specs.State.{mode_number, tx_number, tx_by, rx_flag}
 use Rattle.registers.specs.Registers.{region_of, first_control}
 use Rattle.registers.specs.Modes.{requested}
 
@@ -40,6 +37,16 @@ version = 3
 unfoldable pub is_chip : List ℕ → Bool
 is_chip m = eqb (length m) image_size && eqb (get_or m version_at 0) version
 
+-- bytes lent as a chip, and what is written to it then stands in them; the chip that is read or changed has the bytes that it had before
+abbrev pub LendsChip : MutBor (List ℕ) → Option (MutBor (List ℕ)) → Fml
+LendsChip s r = LendsIf (Array u8 0) (Array u8 0) s r (λ ws. ws) s.now
+
+abbrev pub HoldsChip : List ℕ → Option (MutBor (List ℕ)) → Type 0
+HoldsChip m r = IfSome r (λ y. y.now ≡ m)
+
+abbrev pub ReadsChip : List ℕ → Option (Bor (List ℕ)) → Type 0
+ReadsChip m r = IfSome r (λ y. y.now ≡ m)
+
 -- ---- the enums in a byte: modes by their number, a flight by its buffer or 3, a request by its mode or 7; each larger byte means the last
 abbrev pub mode_of : ℕ → Mode
 mode_of n =
@@ -48,16 +55,16 @@ mode_of n =
     (cond (eqb n 2) Loopback
     (cond (eqb n 3) ListenOnly Configuration)))
 
-abbrev pub flight_of : ℕ → Flight
-flight_of n = cond (eqb n 0) (Of Txb0) (cond (eqb n 1) (Of Txb1) (cond (eqb n 2) (Of Txb2) Idle))
+abbrev pub flight_of : ℕ → Option TxBuffer
+flight_of n = tx_by n
 
-abbrev pub flight_number : Flight → ℕ
-flight_number Idle = 3
-flight_number (Of b) = tx_number b
+abbrev pub flight_number : Option TxBuffer → ℕ
+flight_number None = 3
+flight_number (Some b) = tx_number b
 
-abbrev pub request_number : Request → ℕ
-request_number Nothing = 7
-request_number (Wanted m) = mode_number m
+abbrev pub request_number : Option Mode → ℕ
+request_number None = 7
+request_number (Some m) = mode_number m
 
 -- ---- the control registers that the bytes from 128 on stand for, b i being byte i
 unfoldable pub decoded : (ℕ → ℕ) → Control

@@ -11,10 +11,10 @@ ghost use Rattle.registers.specs.Registers.{
   is_profile,
   reads,
 };
-ghost use Rattle.image.specs.Image.{image_size, control_of, core_of, Answered, is_derived, place_of};
+ghost use Rattle.image.specs.Image.{control_of, core_of, is_derived, place_of};
 
 use crate::control::{control_of, mode_of};
-use crate::{MODE, PINS, SIZE, TXRTSCTRL};
+use crate::{Image, MODE, PINS, TXRTSCTRL};
 use registers::{B0RTS, B1RTS, B1RTSM, B2RTS, B2RTSM};
 
 // RX1OVR and RX0OVR.
@@ -24,28 +24,21 @@ const OVERFLOW: u8 = 192;
 const STORED: u8 = 199;
 
 // TEC as it reads.
-fn tec(image: &[u8]) -> u8
-    requires { length image.now ≡ image_size }
+fn tec(image: &Image) -> u8
     ensures { result ≡ min (control_of image.now).counters.tec 255 }
 {
-    let control = control_of(image);
-    let counters = control.counters;
-    registers::capped(counters.tec)
+    registers::capped(control_of(image).counters.tec)
 }
 
 // EFLG: the overflow bits, and those that follow from the counters.
-fn eflg(image: &[u8]) -> u8
-    requires { length image.now ≡ image_size }
+fn eflg(image: &Image) -> u8
     ensures { result ≡ bit_or (bit_and (control_of image.now).flags.eflg 0xC0) (error_flags (control_of image.now).counters) }
 {
     let control = control_of(image);
-    let counters = control.counters;
-    let flags = control.flags;
-    (flags.eflg & OVERFLOW) | registers::error_flags(counters)
+    (control.flags.eflg & OVERFLOW) | registers::error_flags(control.counters)
 }
 
-fn canstat(image: &[u8]) -> u8
-    requires { length image.now ≡ image_size }
+fn canstat(image: &Image) -> u8
     ensures { result ≡ canstat_of (control_of image.now) }
 {
     registers::canstat(control_of(image))
@@ -59,8 +52,7 @@ fn shown(high: bool, enabled: bool, bit: u8) -> u8
 }
 
 // TXRTSCTRL: what is stored, and the levels of the pins that it does not enable.
-fn txrtsctrl(image: &[u8]) -> u8
-    requires { length image.now ≡ image_size }
+fn txrtsctrl(image: &Image) -> u8
     ensures { result ≡ txrtsctrl_of (core_of image.now) }
 {
     let enables = image[TXRTSCTRL];
@@ -78,8 +70,9 @@ fn is_derived(at: u8) -> bool
     (at % 16 == 14) | (at == 0x2D) | (at == 0x1C) | (at == 0x0D)
 }
 
-fn derived(image: &[u8], at: u8) -> u8
-    requires { (length image.now ≡ image_size) × (at < 128) × (is_derived (region_of at) ≡ true) }
+#[tactic(auto, using(crate::proofs::Places::derived_last), unfolding(registers::specs::Registers::region_of))]
+fn derived(image: &Image, at: u8) -> u8
+    requires { (at < 128) × (is_derived (region_of at) ≡ true) }
     ensures { result ≡ holds_in (region_of at) (core_of image.now) at }
 {
     if at % 16 == 14 {
@@ -95,6 +88,7 @@ fn derived(image: &[u8], at: u8) -> u8
 }
 
 // Where the byte of an address lies. Addresses follow no pattern, so this is done without branches.
+#[tactic(auto, using(crate::proofs::Places::place_by_lem), unfolding(crate::specs::Image::place_of))]
 pub fn place_of(address: u8) -> u8
     ensures { result ≡ place_of address }
 {
@@ -110,8 +104,9 @@ pub fn place_of(address: u8) -> u8
     )
 }
 
-fn hold_at(image: &[u8], at: u8) -> u8
-    requires { (length image.now ≡ image_size) × (at < 128) }
+#[tactic(auto, using(crate::proofs::Places::place_small), unfolding(crate::specs::Image::place_of))]
+fn hold_at(image: &Image, at: u8) -> u8
+    requires { at < 128 }
     ensures { result ≡ holds_in (region_of at) (core_of image.now) at }
 {
     if is_derived(at) {
@@ -121,13 +116,11 @@ fn hold_at(image: &[u8], at: u8) -> u8
     image[place]
 }
 
-// What an address holds; 0 where the bytes are no image.
-pub fn hold(image: &[u8], address: u8) -> u8
-    ensures { Answered image.now result (holds (core_of image.now) address) 0 }
+// What an address holds.
+#[tactic(auto, unfolding(registers::specs::Registers::holds))]
+pub fn hold(image: &Image, address: u8) -> u8
+    ensures { result ≡ holds (core_of image.now) address }
 {
-    if image.len() != SIZE {
-        return 0;
-    }
     hold_at(image, address % 128)
 }
 
@@ -140,12 +133,10 @@ fn is_profile(at: u8) -> bool
 }
 
 // What a READ of an address replies: filters and masks 0 outside Configuration.
-pub fn read(image: &[u8], address: u8) -> u8
-    ensures { Answered image.now result (reads (core_of image.now) address) 0 }
+#[tactic(auto, unfolding(registers::specs::Registers::reads, registers::specs::Registers::holds, crate::specs::Image::decoded))]
+pub fn read(image: &Image, address: u8) -> u8
+    ensures { result ≡ reads (core_of image.now) address }
 {
-    if image.len() != SIZE {
-        return 0;
-    }
     let at = address % 128;
     let shown = registers::is_configuration(mode_of(image[MODE]));
     bits::choose(is_profile(at) & !shown, 0, hold_at(image, at))

@@ -1,17 +1,16 @@
 // The control registers, taken out of the image and put back; power-on, RESET and the last act of a step.
-ghost use Rattle.std.specs.Prelude.{◌≡◌, ◌++◌, ◌+◌, ◌*◌, ◌/◌, ◌<◌, length, take, drop};
+ghost use Rattle.std.specs.Prelude.{◌≡◌, ◌↔◌, ◌++◌, ◌+◌, ◌*◌, ◌/◌, ◌<◌, true, take, drop, IsSome};
+ghost use Rattle.std.specs.Borrow.{sem};
 ghost use Rattle.registers.specs.State.{with_control, with_level, with_pins};
 ghost use Rattle.registers.specs.Registers.{
   region_of,
   first_control,
-  all_high,
   is_kept,
   kept_from,
   reset_core,
 };
 ghost use Rattle.registers.specs.Modes.{settled};
 ghost use Rattle.image.specs.Image.{
-  image_size,
   mode_of,
   flight_of,
   flight_number,
@@ -22,19 +21,19 @@ ghost use Rattle.image.specs.Image.{
   core_of,
   is_chip,
   power_on_bytes,
-  Acted,
-  Answered,
+  Became,
+  LendsChip,
+  HoldsChip,
+  ReadsChip,
 };
 
 use crate::{
-    CANCTRL, CANINTE, CANINTF, EFLG, FLIGHT, MODE, PINS, REC, REQUEST, RXB0CTRL, RXB1CTRL, SIZE,
-    TEC, TEC_HIGH, TXB0CTRL, TXB1CTRL, TXB2CTRL, VERSION,
+    CANCTRL, CANINTE, CANINTF, EFLG, FLIGHT, Image, MODE, NO_FLIGHT, PINS, REC, REQUEST, RXB0CTRL,
+    RXB1CTRL, SIZE, TEC, TEC_HIGH, TXB0CTRL, TXB1CTRL, TXB2CTRL, VERSION,
 };
-use registers::{
-    Control, Counters, Flags, Flight, Mode, Pins, Request, RxControl, State, TxBuffer, TxControl,
-};
+use registers::{Control, Counters, Flags, Mode, Pins, RxControl, State, TxBuffer, TxControl};
 
-// The byte of a request for nothing.
+// The byte of no request.
 const NO_REQUEST: u8 = 7;
 
 // The version of this layout.
@@ -43,63 +42,32 @@ const THIS_VERSION: u8 = 3;
 pub fn mode_of(number: u8) -> Mode
     ensures { result ≡ mode_of number }
 {
-    match number {
-        0 => Mode::Normal,
-        1 => Mode::Sleep,
-        2 => Mode::Loopback,
-        3 => Mode::ListenOnly,
-        _ => Mode::Configuration,
-    }
+    Mode::try_from(number).unwrap_or(Mode::Configuration)
 }
 
-pub fn flight_of(number: u8) -> Flight
+pub fn flight_of(number: u8) -> Option<TxBuffer>
     ensures { result ≡ flight_of number }
 {
-    match number {
-        0 => Flight::Of(TxBuffer::Txb0),
-        1 => Flight::Of(TxBuffer::Txb1),
-        2 => Flight::Of(TxBuffer::Txb2),
-        _ => Flight::Idle,
-    }
+    TxBuffer::try_from(number).ok()
 }
 
-fn flight_number(flight: Flight) -> u8
+fn flight_number(flight: Option<TxBuffer>) -> u8
     ensures { result ≡ flight_number flight }
 {
-    match flight {
-        Flight::Idle => 3,
-        Flight::Of(buffer) => registers::tx_number(buffer),
-    }
+    flight.map_or(NO_FLIGHT, |buffer| buffer as u8)
 }
 
-fn request_number(request: Request) -> u8
+fn request_number(request: Option<Mode>) -> u8
     ensures { result ≡ request_number request }
 {
-    match request {
-        Request::Nothing => NO_REQUEST,
-        Request::Wanted(mode) => registers::mode_number(mode),
-    }
+    request.map_or(NO_REQUEST, |mode| mode as u8)
 }
 
-fn wide(low: u8, high: u8) -> u16
-    ensures { result ≡ low + high * 256 }
+// The control registers of an image.
+#[tactic(auto, unfolding(crate::specs::Image::decoded))]
+pub fn control_of(image: &Image) -> Control
+    ensures { result ≡ control_of image.now }
 {
-    (low as u16) + (high as u16) * 256
-}
-
-fn upper(number: u16) -> u8
-    ensures { result ≡ number / 256 }
-{
-    (number / 256) as u8
-}
-
-// The control registers of an image; for other bytes those of power-on.
-pub fn control_of(image: &[u8]) -> Control
-    ensures { Answered image.now result (control_of image.now) first_control }
-{
-    if image.len() != SIZE {
-        return registers::first_control();
-    }
     Control {
         flags: Flags {
             canctrl: image[CANCTRL],
@@ -117,7 +85,7 @@ pub fn control_of(image: &[u8]) -> Control
             rxb1: image[RXB1CTRL],
         },
         counters: Counters {
-            tec: wide(image[TEC], image[TEC_HIGH]),
+            tec: u16::from_le_bytes([image[TEC], image[TEC_HIGH]]),
             rec: image[REC],
         },
         state: State {
@@ -128,17 +96,11 @@ pub fn control_of(image: &[u8]) -> Control
     }
 }
 
-pub fn put_control(image: &mut [u8], control: Control)
-    ensures { Acted image.old image.new (with_control (core_of image.old) control) }
+pub fn put_control(image: &mut Image, control: Control)
+    ensures { Became image.old image.new (with_control (core_of image.old) control) }
 {
-    if image.len() != SIZE {
-        return;
-    }
     let state = control.state;
-    let mode = state.mode;
-    let flight = state.flight;
-    let request = state.request;
-    let tec = control.counters.tec;
+    let [tec, tec_high] = control.counters.tec.to_le_bytes();
     image[CANCTRL] = control.flags.canctrl;
     image[CANINTE] = control.flags.caninte;
     image[CANINTF] = control.flags.canintf;
@@ -148,25 +110,18 @@ pub fn put_control(image: &mut [u8], control: Control)
     image[TXB2CTRL] = control.tx.txb2;
     image[RXB0CTRL] = control.rx.rxb0;
     image[RXB1CTRL] = control.rx.rxb1;
-    image[TEC] = (tec % 256) as u8;
+    image[TEC] = tec;
     image[REC] = control.counters.rec;
-    image[TEC_HIGH] = upper(tec);
-    image[MODE] = registers::mode_number(mode);
-    image[FLIGHT] = flight_number(flight);
-    image[REQUEST] = request_number(request);
+    image[TEC_HIGH] = tec_high;
+    image[MODE] = registers::mode_number(state.mode);
+    image[FLIGHT] = flight_number(state.flight);
+    image[REQUEST] = request_number(state.request);
 }
 
-// The levels of the request pins; for other bytes those of power-on.
-pub fn pins_of(image: &[u8]) -> Pins
-    ensures { Answered image.now result (pins_of image.now) all_high }
+// The levels of the request pins.
+pub fn pins_of(image: &Image) -> Pins
+    ensures { result ≡ pins_of image.now }
 {
-    if image.len() != SIZE {
-        return Pins {
-            tx0rts: true,
-            tx1rts: true,
-            tx2rts: true,
-        };
-    }
     Pins {
         tx0rts: image[PINS] != 0,
         tx1rts: image[PINS + 1] != 0,
@@ -177,23 +132,21 @@ pub fn pins_of(image: &[u8]) -> Pins
 fn level_byte(high: bool) -> u8
     ensures { result ≡ level_byte high }
 {
-    if high { 1 } else { 0 }
+    high as u8
 }
 
 // The level of a buffer's request pin.
-pub fn put_level(image: &mut [u8], buffer: TxBuffer, high: bool)
-    ensures { Acted image.old image.new (with_pins (core_of image.old) (with_level (pins_of image.old) buffer high)) }
+pub fn put_level(image: &mut Image, buffer: TxBuffer, high: bool)
+    ensures { Became image.old image.new (with_pins (core_of image.old) (with_level (pins_of image.old) buffer high)) }
 {
-    if image.len() != SIZE {
-        return;
-    }
     let place = PINS + (registers::tx_number(buffer) as usize);
     image[place] = level_byte(high);
 }
 
 // The levels of the three.
-pub fn put_pins(image: &mut [u8], pins: Pins)
-    ensures { Acted image.old image.new (with_pins (core_of image.old) pins) }
+#[tactic(auto, using(crate::proofs::Laws::pins_in))]
+pub fn put_pins(image: &mut Image, pins: Pins)
+    ensures { Became image.old image.new (with_pins (core_of image.old) pins) }
 {
     put_level(image, TxBuffer::Txb0, pins.tx0rts);
     put_level(image, TxBuffer::Txb1, pins.tx1rts);
@@ -201,12 +154,10 @@ pub fn put_pins(image: &mut [u8], pins: Pins)
 }
 
 // A mode request is carried out where it can be: the last act of each accepted step.
-pub fn settle(image: &mut [u8])
-    ensures { Acted image.old image.new (with_control (core_of image.old) (settled (control_of image.old))) }
+#[tactic(auto, using(crate::proofs::Laws::no_request))]
+pub fn settle(image: &mut Image)
+    ensures { Became image.old image.new (with_control (core_of image.old) (settled (control_of image.old))) }
 {
-    if image.len() != SIZE {
-        return;
-    }
     if image[REQUEST] < NO_REQUEST {
         let control = control_of(image);
         put_control(image, registers::settle(control));
@@ -214,12 +165,10 @@ pub fn settle(image: &mut [u8])
 }
 
 // The same for a caller that is run often: this test is compiled into the caller, and the act, which is rare, stays apart.
-pub fn settle_if_asked(image: &mut [u8])
-    ensures { Acted image.old image.new (with_control (core_of image.old) (settled (control_of image.old))) }
+#[tactic(auto, using(crate::proofs::Laws::no_request))]
+pub fn settle_if_asked(image: &mut Image)
+    ensures { Became image.old image.new (with_control (core_of image.old) (settled (control_of image.old))) }
 {
-    if image.len() != SIZE {
-        return;
-    }
     if image[REQUEST] < NO_REQUEST {
         settle(image);
     }
@@ -235,36 +184,32 @@ fn is_kept(at: usize) -> bool
 }
 
 // Of the bytes of 00h to 7Fh those that RESET does not keep are 0.
-fn clear(image: &mut [u8])
-    requires { length image.old ≡ image_size }
+fn clear(image: &mut Image)
     ensures { image.new ≡ kept_from 0 (take 128 image.old) ++ drop 128 image.old }
 {
-    let mut i = 0;
-    while i < CANCTRL {
-        image[i] = bits::choose(is_kept(i), image[i], 0);
-        i += 1;
+    for at in 0..CANCTRL {
+        image[at] = bits::choose(is_kept(at), image[at], 0);
     }
 }
 
 // RESET.
-pub fn reset(image: &mut [u8])
-    ensures { Acted image.old image.new (reset_core (core_of image.old)) }
+#[tactic(auto, using(crate::proofs::Laws::reset_core_lem))]
+pub fn reset(image: &mut Image)
+    ensures { Became image.old image.new (reset_core (core_of image.old)) }
 {
-    if image.len() != SIZE {
-        return;
-    }
     clear(image);
     put_control(image, registers::first_control());
 }
 
 // Power-on, with the request pins and the select line high.
-pub fn power_on() -> [u8; SIZE]
+#[tactic(auto, unfolding(crate::specs::Image::power_on_bytes, crate::specs::Image::encoded))]
+pub fn power_on() -> Image
     ensures { result ≡ power_on_bytes }
 {
     let mut image = [0u8; SIZE];
     image[CANCTRL] = 135;
     image[MODE] = 4;
-    image[FLIGHT] = 3;
+    image[FLIGHT] = NO_FLIGHT;
     image[REQUEST] = NO_REQUEST;
     image[PINS] = 1;
     image[PINS + 1] = 1;
@@ -274,6 +219,7 @@ pub fn power_on() -> [u8; SIZE]
 }
 
 // Whether bytes are a chip: any image that bears this version.
+#[tactic(auto, unfolding(crate::specs::Image::is_chip))]
 pub fn is_chip(bytes: &[u8]) -> bool
     ensures { result ≡ is_chip bytes.now }
 {
@@ -281,4 +227,29 @@ pub fn is_chip(bytes: &[u8]) -> bool
         return false;
     }
     bytes[VERSION] == THIS_VERSION
+}
+
+// The chip in bytes that a caller lends; what is written to it is written to them.
+#[tactic(auto, unfolding(crate::specs::Image::is_chip))]
+pub fn as_mut_chip(bytes: &mut [u8]) -> Option<&mut Image>
+    ensures* writes_back { sem 𝓛 (LendsChip bytes.entry result) }
+    ensures is { IsSome result ↔ (is_chip bytes.old ≡ true) }
+    ensures value { HoldsChip bytes.old result }
+{
+    if !is_chip(bytes) {
+        return None;
+    }
+    bytes.as_mut_array::<SIZE>()
+}
+
+// The same where it is only read.
+#[tactic(auto, unfolding(crate::specs::Image::is_chip))]
+pub fn as_chip(bytes: &[u8]) -> Option<&Image>
+    ensures is { IsSome result ↔ (is_chip bytes.now ≡ true) }
+    ensures value { ReadsChip bytes.now result }
+{
+    if !is_chip(bytes) {
+        return None;
+    }
+    bytes.as_array::<SIZE>()
 }

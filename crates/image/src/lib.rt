@@ -1,16 +1,22 @@
 // The chip as bytes at fixed places. A caller lends them, and the rules change them where they lie.
 #![tactic(auto)]
 
-mod addresses;
-mod control;
+pub mod addresses;
+pub mod control;
+mod slices;
 
-pub use addresses::{hold, place_of, read};
-pub use control::{
-    control_of, flight_of, is_chip, mode_of, pins_of, power_on, put_control, put_level, put_pins,
-    reset, settle, settle_if_asked,
+pub use addresses::place_of;
+pub use control::{as_chip, as_mut_chip, flight_of, is_chip, mode_of, power_on};
+pub use slices::{
+    control_of, hold, pins_of, put_control, put_level, put_pins, read, reset, settle,
+    settle_if_asked,
 };
 
 pub const SIZE: usize = 152;
+
+// An array and no struct with methods: so the bytes that a C caller lends are a chip where they lie. A copy into a struct and back would
+// make a step two fifths dearer.
+pub type Image = [u8; SIZE];
 
 // The bytes of 00h to 7Fh lie at their addresses, TXRTSCTRL with its bits 0 to 2. Behind them the control registers.
 pub const TXRTSCTRL: usize = 13;
@@ -43,8 +49,10 @@ pub const TEC_HIGH: usize = 139;
 
 pub const MODE: usize = 140;
 
-// The buffer in flight, or 3.
+// The buffer in flight, or NO_FLIGHT.
 pub const FLIGHT: usize = 141;
+
+pub const NO_FLIGHT: u8 = 3;
 
 // The mode wanted, or 7.
 pub const REQUEST: usize = 142;

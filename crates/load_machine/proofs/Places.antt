@@ -1,11 +1,13 @@
 -- What lies past a list, and which bits of a byte of the profile a write reaches. Assumes nothing.
 use mathlib.Core.Path.{◌≡◌, refl}
-use mathlib.Core.Bool.{cond}
+use mathlib.Core.Bool.{Bool, true, false, cond, ◌&&◌}
 use mathlib.Core.List.{List, [], ◌∷◌, ◌++◌}
 use Prim.Native.Nat.{ℕ, zero, suc, ◌%◌, ◌≤◌, ◌<◌}
 use native.Mathlib.Omega.{arith}
 use lib.Dec.{eqb, ltb}
 use lib.ListN.{get_or, length}
+use borrow.Author.Tests.{eqb-true, eqb-false}
+use Rattle.bits.specs.Bit.{for_below}
 use Rattle.bits.proofs.All.{agree}
 use Rattle.registers.specs.Registers.{region_of, writable_of}
 use Rattle.load_machine.specs.Profile.{address_of, bits_of}
@@ -21,6 +23,19 @@ padded [] zero = refl
 padded [] (suc i) = refl
 padded (x ∷ xs) zero = refl
 padded (x ∷ xs) (suc i) = padded xs i
+
+-- a test that fails below n does not hold at all numbers there
+pub fails_below : (f : ℕ → Bool) (n k : ℕ) → k < n → f k ≡ false → for_below n f ≡ false
+fails_below f zero k h e = absurd (omega arith)
+fails_below f (suc n) k h e = go (eqb k n) refl (λ below. fails_below f n k below e)
+  where
+    neither : (b : Bool) → (b && false) ≡ false
+    neither true = refl
+    neither false = refl
+
+    go : (last : Bool) → eqb k n ≡ last → (k < n → for_below n f ≡ false) → (for_below n f && f n) ≡ false
+    go true same rest = rw (rw (eqb-true k n same) at e) (neither (for_below n f))
+    go false same rest = rw (rest (omega (arith, eqb-false k n same))) refl
 
 -- a write reaches what the code says, at each of the 256 indices
 abbrev reached_bits : ℕ → ℕ

@@ -1,6 +1,7 @@
 -- The loader as a machine: its stage, the profile and the reply to its last command give the next command, or the verdict. It knows
 -- no chip. Assumes nothing: these are definitions.
-use Rattle.std.specs.Prelude.{ℕ, zero, suc, ◌+◌, ◌-◌, ◌*◌, ◌/◌, Bool, true, cond, ◌&&◌, List, [], ◌∷◌, eqb, ltb, get_or, replicate}
+use Rattle.std.specs.Prelude.{ℕ, zero, suc, ◌+◌, ◌-◌, ◌*◌, ◌/◌, Bool, true, cond, ◌&&◌, List, [], ◌∷◌, eqb, ltb, get_or, replicate, Result, Ok, Err}
+use Rattle.records.specs.declared.Refusal.{Refusal}
 use Rattle.registers.specs.declared.Mode.{Mode}
 use Rattle.registers.specs.declared.Mode.TheVariants.{Configuration}
 use Rattle.registers.specs.State.{mode_number}
@@ -12,15 +13,16 @@ use Rattle.load_machine.specs.declared.Command.{Command}
 use Rattle.load_machine.specs.declared.Command.TheVariants.{Ask, Read, Write}
 use Rattle.load_machine.specs.declared.Turn.{Turn}
 use Rattle.load_machine.specs.declared.Turn.TheVariants.{Send, Say}
-use Rattle.load_machine.specs.Profile.{profile_size, address_of, agrees_at, refusal_for}
+use Rattle.load_machine.specs.Profile.{profile_size, address_of, agrees_at, checked_for}
 
 -- ---- the stages
 -- refused, it is at its end before it begins
-abbrev pub begin_by : ℕ → Stage
-begin_by refusal = cond (eqb refusal 0) Asking (Ended (Refused refusal))
+abbrev pub begin_by : Result Unit Refusal → Stage
+begin_by (Ok passed) = Asking
+begin_by (Err refusal) = Ended (Refused refusal)
 
 unfoldable pub begin_of : Bool → List ℕ → Mode → Stage
-begin_of low p m = begin_by (refusal_for low p m)
+begin_of low p m = begin_by (checked_for low p m)
 
 -- where CANSTAT shows the mode
 abbrev pub canstat_address : ℕ

@@ -1,7 +1,9 @@
 -- A profile: 34 bytes, filters 0 to 5, masks 0 and 1, RXB0CTRL, RXB1CTRL. Assumes nothing: these are definitions.
-use Rattle.std.specs.Prelude.{ℕ, ◌+◌, Bool, true, false, cond, List, eqb, ltb, get_or}
+use Rattle.std.specs.Prelude.{ℕ, ◌+◌, Bool, true, false, cond, List, eqb, ltb, get_or, Result, Ok, Err}
 use Rattle.std.specs.Int.Bits.{bit_and}
 use Rattle.bits.specs.Bit.{for_below, agree_under}
+use Rattle.records.specs.declared.Refusal.{Refusal}
+use Rattle.records.specs.declared.Refusal.TheVariants.{Select, Profile, Mode as OtherMode}
 use Rattle.records.specs.Records.{refused_select}
 use Rattle.registers.specs.declared.Mode.{Mode}
 use Rattle.registers.specs.declared.Mode.TheVariants.{Normal, Sleep, Loopback, ListenOnly, Configuration}
@@ -47,5 +49,9 @@ loads_in Loopback = false
 loads_in ListenOnly = true
 loads_in Configuration = true
 
+unfoldable pub checked_for : Bool → List ℕ → Mode → Result Unit Refusal
+checked_for low p m = cond low (Err Select) (cond (is_writable p) (cond (loads_in m) (Ok tt) (Err OtherMode)) (Err Profile))
+
+-- the same by number, 0 where it is not refused
 unfoldable pub refusal_for : Bool → List ℕ → Mode → ℕ
 refusal_for low p m = cond low refused_select (cond (is_writable p) (cond (loads_in m) 0 refused_mode) refused_profile)

@@ -2,7 +2,7 @@
 // knows no chip.
 #![tactic(auto)]
 
-ghost use Rattle.std.specs.Prelude.{◌≡◌, get_or, [], ◌∷◌, ◌*◌};
+ghost use Rattle.std.specs.Prelude.{◌≡◌, ℕ, get_or};
 ghost use Rattle.load_machine.specs.Profile.{
   address_of,
   bits_of,
@@ -10,6 +10,7 @@ ghost use Rattle.load_machine.specs.Profile.{
   is_writable,
   agrees_at,
   loads_in,
+  checked_for,
   refusal_for,
 };
 ghost use Rattle.load_machine.specs.Machine.{
@@ -23,9 +24,9 @@ ghost use Rattle.load_machine.specs.Machine.{
   record_of_command,
   records_in,
 };
-ghost use Rattle.registers.specs.State.{mode_number};
+ghost use Rattle.records.specs.Records.{refusal_in};
 
-use records::REFUSED_SELECT;
+use records::{Kind, Refusal};
 use registers::Mode;
 
 // Filters 0 to 5, masks 0 and 1, RXB0CTRL, RXB1CTRL.
@@ -33,16 +34,10 @@ pub const PROFILE_SIZE: usize = 34;
 
 const LAST_BYTE: u8 = 33;
 
-// The profile has a bit set that is not writable.
-pub const REFUSED_PROFILE: u8 = 10;
-
-// The mode at the start is not Normal, Listen-Only or Configuration.
-pub const REFUSED_MODE: u8 = 11;
-
-#[derive(Clone, Copy)]
+#[derive(Clone, Copy, Debug, PartialEq, Eq)]
 pub enum Verdict {
     // Nothing was sent: the refusal.
-    Refused(u8),
+    Refused(Refusal),
     // Configuration was not reached, and no profile byte written.
     Waiting,
     // The chip holds the profile.
@@ -51,7 +46,7 @@ pub enum Verdict {
     Differs,
 }
 
-#[derive(Clone, Copy)]
+#[derive(Clone, Copy, Debug, PartialEq, Eq)]
 pub enum Stage {
     Asking,
     Looking,
@@ -64,7 +59,7 @@ pub enum Stage {
     Ended(Verdict),
 }
 
-#[derive(Clone, Copy)]
+#[derive(Clone, Copy, Debug, PartialEq, Eq)]
 pub enum Command {
     // Asks for a mode.
     Ask(Mode),
@@ -74,7 +69,7 @@ pub enum Command {
     Write(u8, u8),
 }
 
-#[derive(Clone, Copy)]
+#[derive(Clone, Copy, Debug, PartialEq, Eq)]
 pub enum Turn {
     Send(Command),
     Say(Verdict),
@@ -84,6 +79,10 @@ pub enum Turn {
 const CANSTAT: u8 = 14;
 
 const CANCTRL: u8 = 15;
+
+const RXB0CTRL: u8 = 96;
+
+const RXB1CTRL: u8 = 112;
 
 // Bits 7-5 of CANCTRL ask for a mode.
 const MODE_BITS: u8 = 224;
@@ -105,49 +104,38 @@ const WRITE: u8 = 2;
 const BIT_MODIFY: u8 = 5;
 
 // Where a byte of the profile goes.
+#[tactic(auto, unfolding(crate::specs::Profile::address_of))]
 pub fn address(index: u8) -> u8
     ensures { result ≡ address_of index }
 {
-    if index < 12 {
-        return index;
+    match index {
+        0..12 => index,
+        12..24 => index + 4,
+        24..32 => index + 8,
+        32 => RXB0CTRL,
+        _ => RXB1CTRL,
     }
-    if index < 24 {
-        return index + 4;
-    }
-    if index < 32 {
-        return index + 8;
-    }
-    if index == 32 { 96 } else { 112 }
 }
 
 // The bits of a byte of the profile that a write reaches: of the control bytes, of SIDL of a filter and of a
 // mask.
+#[tactic(auto, using(crate::proofs::Places::reached))]
 fn bits(index: u8) -> u8
     ensures { result ≡ bits_of index }
 {
-    if index == 32 {
-        return RXB0CTRL_BITS;
-    }
-    if index > 32 {
-        return RXB1CTRL_BITS;
-    }
-    if index % 4 != 1 {
-        return 255;
-    }
-    if index < 24 {
-        FILTER_SIDL_BITS
-    } else {
-        MASK_SIDL_BITS
+    match index {
+        32 => RXB0CTRL_BITS,
+        33.. => RXB1CTRL_BITS,
+        _ if index % 4 != 1 => 255,
+        0..24 => FILTER_SIDL_BITS,
+        _ => MASK_SIDL_BITS,
     }
 }
 
 fn byte_at(profile: [u8; PROFILE_SIZE], index: u8) -> u8
     ensures { result ≡ get_or profile index 0 }
 {
-    if index > LAST_BYTE {
-        return 0;
-    }
-    profile[index as usize]
+    profile.get(index as usize).copied().unwrap_or(0)
 }
 
 fn is_writable_at(profile: [u8; PROFILE_SIZE], index: u8) -> bool
@@ -160,13 +148,12 @@ fn is_writable_at(profile: [u8; PROFILE_SIZE], index: u8) -> bool
 fn is_writable(profile: [u8; PROFILE_SIZE]) -> bool
     ensures { result ≡ is_writable profile }
 {
-    let mut all = true;
-    let mut index = 0;
-    while index <= LAST_BYTE {
-        all = all & is_writable_at(profile, index);
-        index += 1;
+    for index in 0..=LAST_BYTE {
+        if !is_writable_at(profile, index) {
+            return false;
+        }
     }
-    all
+    true
 }
 
 fn agrees(profile: [u8; PROFILE_SIZE], index: u8, reply: u8) -> bool
@@ -179,43 +166,40 @@ fn agrees(profile: [u8; PROFILE_SIZE], index: u8, reply: u8) -> bool
 fn loads_in(mode: Mode) -> bool
     ensures { result ≡ loads_in mode }
 {
-    match mode {
-        Mode::Normal => true,
-        Mode::Sleep => false,
-        Mode::Loopback => false,
-        Mode::ListenOnly => true,
-        Mode::Configuration => true,
-    }
+    matches!(mode, Mode::Normal | Mode::ListenOnly | Mode::Configuration)
 }
 
-// Why a load is refused, 0 where it is not; low says whether the chip's select is low.
-fn refusal(low: bool, profile: [u8; PROFILE_SIZE], mode: Mode) -> u8
-    ensures { result ≡ refusal_for low profile mode }
+// Whether a load may begin; low says whether the chip's select is low.
+#[tactic(auto, unfolding(crate::specs::Profile::checked_for, crate::specs::Profile::refusal_for))]
+fn check(low: bool, profile: [u8; PROFILE_SIZE], mode: Mode) -> Result<(), Refusal>
+    ensures value { result ≡ checked_for low profile mode }
+    ensures number { refusal_in result ≡ refusal_for low profile mode }
 {
     if low {
-        return REFUSED_SELECT;
+        return Err(Refusal::Select);
     }
     if !is_writable(profile) {
-        return REFUSED_PROFILE;
+        return Err(Refusal::Profile);
     }
     if !loads_in(mode) {
-        return REFUSED_MODE;
+        return Err(Refusal::Mode);
     }
-    0
+    Ok(())
 }
 
 // The first stage of a load: refused, it is at its end.
+#[tactic(auto, unfolding(crate::specs::Machine::begin_of))]
 pub fn begin(low: bool, profile: [u8; PROFILE_SIZE], mode: Mode) -> Stage
     ensures { result ≡ begin_of low profile mode }
 {
-    let refused = refusal(low, profile, mode);
-    if refused == 0 {
-        return Stage::Asking;
+    match check(low, profile, mode) {
+        Ok(()) => Stage::Asking,
+        Err(refusal) => Stage::Ended(Verdict::Refused(refusal)),
     }
-    Stage::Ended(Verdict::Refused(refused))
 }
 
 // What comes next: a command or the verdict. start is the mode at the start.
+#[tactic(auto, unfolding(crate::specs::Machine::next_of))]
 pub fn next(profile: [u8; PROFILE_SIZE], start: Mode, stage: Stage) -> Turn
     ensures { result ≡ next_of profile start stage }
 {
@@ -246,6 +230,7 @@ fn checked(index: u8, agreed: bool) -> Stage
 }
 
 // The stage after the command, by its reply.
+#[tactic(auto, unfolding(crate::specs::Machine::following_of))]
 pub fn following(profile: [u8; PROFILE_SIZE], stage: Stage, reply: u8) -> Stage
     ensures { result ≡ following_of profile stage reply }
 {
@@ -269,44 +254,21 @@ pub fn following(profile: [u8; PROFILE_SIZE], stage: Stage, reply: u8) -> Stage
     }
 }
 
-// One of four bytes, 0 past them.
-fn choose(index: u8, first: u8, second: u8, third: u8, fourth: u8) -> u8
-    ensures { result ≡ get_or (first ∷ second ∷ third ∷ fourth ∷ []) index 0 }
+// What a command's session sends, with 0 past its bytes.
+fn bytes_of(command: Command) -> [u8; 4]
+    ensures { (j : ℕ) → get_or result j 0 ≡ byte_of command j }
 {
-    if index == 0 {
-        return first;
-    }
-    if index == 1 {
-        return second;
-    }
-    if index == 2 {
-        return third;
-    }
-    if index == 3 { fourth } else { 0 }
-}
-
-// A mode where CANCTRL asks for it.
-fn mode_bits(mode: Mode) -> u8
-    ensures { result ≡ mode_number mode * 32 }
-{
-    match mode {
-        Mode::Normal => 0,
-        Mode::Sleep => 32,
-        Mode::Loopback => 64,
-        Mode::ListenOnly => 96,
-        Mode::Configuration => 128,
+    match command {
+        Command::Ask(mode) => [BIT_MODIFY, CANCTRL, MODE_BITS, registers::mode_bits(mode)],
+        Command::Read(address) => [READ, address, 0, 0],
+        Command::Write(address, byte) => [WRITE, address, byte, 0],
     }
 }
 
-// A byte of a command's session.
 fn byte_of(command: Command, index: u8) -> u8
     ensures { result ≡ byte_of command index }
 {
-    match command {
-        Command::Ask(mode) => choose(index, BIT_MODIFY, CANCTRL, MODE_BITS, mode_bits(mode)),
-        Command::Read(address) => choose(index, READ, address, 0, 0),
-        Command::Write(address, byte) => choose(index, WRITE, address, byte, 0),
-    }
+    bytes_of(command).get(index as usize).copied().unwrap_or(0)
 }
 
 fn bytes_in(command: Command) -> u8
@@ -314,8 +276,7 @@ fn bytes_in(command: Command) -> u8
 {
     match command {
         Command::Ask(_) => 4,
-        Command::Read(_) => 3,
-        Command::Write(_, _) => 3,
+        Command::Read(_) | Command::Write(_, _) => 3,
     }
 }
 
@@ -323,28 +284,28 @@ fn bytes_in(command: Command) -> u8
 pub fn records_in(command: Command) -> u8
     ensures { result ≡ records_in command }
 {
-    match command {
-        Command::Ask(_) => 6,
-        Command::Read(_) => 5,
-        Command::Write(_, _) => 5,
-    }
+    bytes_in(command) + 2
 }
 
 fn plain_record(kind: u8, field: u8) -> [u8; 16]
     ensures { result ≡ plain_record kind field }
 {
-    [kind, field, 0, 0, 0, 0, 0, 0, 0, 0, 0, 0, 0, 0, 0, 0]
+    let mut record = [0; 16];
+    record[0] = kind;
+    record[1] = field;
+    record
 }
 
 // One of the records.
+#[tactic(auto, unfolding(crate::specs::Machine::record_of_command))]
 pub fn record_of(command: Command, index: u8) -> [u8; 16]
     ensures { result ≡ record_of_command command index }
 {
     if index == 0 {
-        return plain_record(0, 0);
+        return plain_record(Kind::SelectLow as u8, 0);
     }
     if index > bytes_in(command) {
-        return plain_record(2, 0);
+        return plain_record(Kind::SelectHigh as u8, 0);
     }
-    plain_record(1, byte_of(command, index - 1))
+    plain_record(Kind::Exchange as u8, byte_of(command, index - 1))
 }

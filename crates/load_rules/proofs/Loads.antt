@@ -26,6 +26,11 @@ use Rattle.mcp2515.specs.declared.Chip.{Chip}
 use Rattle.mcp2515.specs.Step.{chip_after}
 use Rattle.mcp2515.proofs.CoreKept.{either}
 use Rattle.mcp2515.proofs.Reached.{same_profile}
+use Rattle.std.specs.Prelude.{Result, Ok, Err}
+use Rattle.records.specs.declared.Refusal.{Refusal}
+use Rattle.records.specs.declared.Refusal.TheVariants.{Profile, Mode as OtherMode}
+use Rattle.records.specs.Records.{refusal_in}
+use Rattle.records.proofs.Refusals.{number_some}
 use Rattle.load_machine.specs.declared.Verdict.{Verdict}
 use Rattle.load_machine.specs.declared.Verdict.TheVariants.{Refused, Waiting, In}
 use Rattle.load_machine.specs.declared.Stage.TheVariants.{Asking, Looking, Writing, Returning, Ended}
@@ -33,10 +38,10 @@ use Rattle.load_machine.specs.declared.Command.{Command}
 use Rattle.load_machine.specs.declared.Command.TheVariants.{Ask, Read}
 use Rattle.load_machine.specs.declared.Turn.{Turn}
 use Rattle.load_machine.specs.declared.Turn.TheVariants.{Send, Say}
-use Rattle.load_machine.specs.Profile.{profile_size, address_of, bits_of, is_writable_at, is_writable, refused_profile, refusal_for}
-use Rattle.load_machine.specs.Machine.{begin_of, next_of, is_reached, following_of, session_of}
+use Rattle.load_machine.specs.Profile.{profile_size, address_of, bits_of, is_writable_at, is_writable, refused_profile, refused_mode, loads_in, checked_for, refusal_for}
+use Rattle.load_machine.specs.Machine.{begin_by, begin_of, next_of, is_reached, following_of, session_of}
 use Rattle.load_rules.specs.Load.{gap_before, reply_of, Progress, turn_by, turn_of, turns, start_of, is_lowered, begun, load_of}
-use Rattle.load_rules.specs.Laws.{writes_from, reads_from, commands_of, records_of_all, CommandCounts, interleaved, reaches, refusal_of_load, RefusedLoads, register_of, Loads, AcceptedLoads}
+use Rattle.load_rules.specs.Laws.{writes_from, reads_from, commands_of, records_of_all, CommandCounts, interleaved, reaches, refusal_of_load, RefusedLoad, RefusedLoads, register_of, Loads, AcceptedLoads}
 use Rattle.load_rules.proofs.Reach.{Home, Reach, there, waiting, settle_reach, event_reach}
 use Rattle.load_rules.proofs.Sessions.{raised, ask_core, ask_chip, read_chip, read_reply}
 use Rattle.load_rules.proofs.Slots.{at_profile, same_registers}
@@ -297,11 +302,30 @@ sound_at p (suc n) i e h = go (eqb i n) refl (λ l. sound_at p n i (and_left (fo
     go true f below = rw (eqb-true i n f) (and_right (for_below n (is_writable_at p)) (is_writable_at p n) e)
     go false f below = below (omega (arith, h, eqb-false i n f))
 
+-- the check before a load, and its number
+checked_number : (low : Bool) (p : List ℕ) (m : Mode) → refusal_in (checked_for low p m) ≡ refusal_for low p m
+unfolding checked_for refusal_for
+checked_number true p m = refl
+checked_number false p m = go (is_writable p) (loads_in m)
+  where
+    go : (x y : Bool) → refusal_in {A = Unit} (cond x (cond y (Ok tt) (Err OtherMode)) (Err Profile)) ≡ cond x (cond y 0 refused_mode) refused_profile
+    go true true = refl
+    go true false = refl
+    go false y = refl
+
 pub refused_loads : RefusedLoads
 unfolding load_of begin_of
-refused_loads c p g h =
-    ap (λ (b : Bool). turns p (start_of c) g 71 0 (record { stage = cond b Asking (Ended (Refused (refusal_of_load c p))); chip = c; sent = [] })) (ne_eqb (refusal_of_load c p) 0 h)
-    ∙ turns_ended p (start_of c) g 71 0 (Refused (refusal_of_load c p)) c []
+refused_loads c p g h = go (checked_for (is_lowered c.select) p (start_of c)) refl
+  where
+    go : (x : Result Unit Refusal) → checked_for (is_lowered c.select) p (start_of c) ≡ x → RefusedLoad c p g
+    go (Ok passed) e = absurd (h (sym (checked_number (is_lowered c.select) p (start_of c)) ∙ ap refusal_in e))
+    go (Err r) e =
+        record {
+          refusal = r;
+          number = sym (ap refusal_in e) ∙ checked_number (is_lowered c.select) p (start_of c);
+          load = ap (λ (x : Result Unit Refusal). turns p (start_of c) g 71 0 (record { stage = begin_by x; chip = c; sent = [] })) e
+              ∙ turns_ended p (start_of c) g 71 0 (Refused r) c [];
+        }
 
 -- the chip after a load is the chip after its records
 load_replays : (c : Chip) (p : List ℕ) (g : ℕ → List (List ℕ)) → (load_of c p g).chip ≡ chip_after c (load_of c p g).sent
@@ -325,6 +349,13 @@ begins low p m e = go low (is_writable p) refl refl
     go false true f h = record { high = f; sound = h }
     go false false f h = absurd (positive refused_profile (omega arith) (rw (f, h) at e))
 
+passes : (low : Bool) (p : List ℕ) (m : Mode) → refusal_for low p m ≡ 0 → checked_for low p m ≡ Ok tt
+passes low p m e = go (checked_for low p m) refl
+  where
+    go : (x : Result Unit Refusal) → checked_for low p m ≡ x → checked_for low p m ≡ Ok tt
+    go (Ok passed) f = f
+    go (Err r) f = absurd (number_some r (sym (ap refusal_in f) ∙ checked_number low p m ∙ e))
+
 raised_select : (s : Select) → is_lowered s ≡ false → s ≡ Raised
 raised_select Raised e = refl
 raised_select (Lowered q i) e = clash e
@@ -338,7 +369,7 @@ module _ (k : Core) (p : List ℕ) (g : ℕ → List (List ℕ)) (whole : length
       ≡ turns p k.control.state.mode g 69 2 (turn_of p k.control.state.mode (gap_before g 1) (at Looking (ask_core Configuration k) ([] ++ ([] ++ session_of (Ask Configuration)))))
   unfolding load_of begin_of
   begun_at =
-      ap (λ (n : ℕ). turns p k.control.state.mode g 71 0 (at (cond (eqb n 0) Asking (Ended (Refused n))) k [])) ok ∙ started k p g
+      ap (λ (x : Result Unit Refusal). turns p k.control.state.mode g 71 0 (at (begin_by x) k [])) (passes false p k.control.state.mode ok) ∙ started k p g
 
   by_reading : (b : Bool) → reaches (raised k) g ≡ b → Loads (raised k) p g
   by_reading true e =

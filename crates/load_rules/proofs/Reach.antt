@@ -3,6 +3,7 @@
 use mathlib.Core.Path.{◌≡◌, refl, sym, ap, ◌∙◌}
 use mathlib.Core.Bool.{true, false, cond}
 use mathlib.Core.List.{List}
+use Rattle.std.specs.Prelude.{Option, Some, None}
 use Prim.Native.Nat.{ℕ, ◌+◌, ◌*◌, ◌/◌, ◌<◌}
 use native.Mathlib.Omega.{arith}
 use lib.Dec.{eqb, lit<}
@@ -11,8 +12,6 @@ use Rattle.bits.specs.Bit.{has_bit}
 use Rattle.records.specs.Records.{accepted, kind_of}
 use Rattle.registers.specs.declared.Mode.{Mode}
 use Rattle.registers.specs.declared.Mode.TheVariants.{Normal, Sleep, Loopback, ListenOnly, Configuration}
-use Rattle.registers.specs.declared.Request.{Request}
-use Rattle.registers.specs.declared.Request.TheVariants.{Nothing, Wanted}
 use Rattle.registers.specs.declared.RxBuffer.{RxBuffer}
 use Rattle.registers.specs.declared.Flags.{Flags}
 use Rattle.registers.specs.declared.RxControl.{RxControl}
@@ -30,12 +29,12 @@ use Rattle.load_rules.proofs.Quiet.{Quiet, happens_quiet}
 -- ---- in this mode with no request left
 pub record Home (m : Mode) (c : Control) : Type 0 where
   pub mode : c.state.mode ≡ m
-  pub request : c.state.request ≡ Nothing
+  pub request : c.state.request ≡ None
 
 -- in this mode, which sends, with Configuration asked for
 pub record Pending (m : Mode) (c : Control) : Type 0 where
   pub mode : c.state.mode ≡ m
-  pub request : c.state.request ≡ Wanted Configuration
+  pub request : c.state.request ≡ Some Configuration
   pub sends : sends_in m ≡ true
 
 pub data Reach (m : Mode) (c : Control) : Type 0 where
@@ -43,16 +42,16 @@ pub data Reach (m : Mode) (c : Control) : Type 0 where
   waiting : Pending m c → Reach m c
 
 -- ---- the last act of a step
-pub settle_none : (c : Control) → c.state.request ≡ Nothing → settled c ≡ c
+pub settle_none : (c : Control) → c.state.request ≡ None → settled c ≡ c
 unfolding settled
-settle_none c e = ap (λ (q : Request). settled_by q c) e
+settle_none c e = ap (λ (q : Option Mode). settled_by q c) e
 
 pub settle_home : {m : Mode} (c : Control) → Home m c → Home m (settled c)
 settle_home c h = rw (settle_none c h.request) h
 
-wanted_by : (c : Control) (m : Mode) → c.state.request ≡ Wanted m → settled c ≡ cond (free_to_change c) (entered (with_request c Nothing) m) c
+wanted_by : (c : Control) (m : Mode) → c.state.request ≡ Some m → settled c ≡ cond (free_to_change c) (entered (with_request c None) m) c
 unfolding settled
-wanted_by c m e = ap (λ (q : Request). settled_by q c) e
+wanted_by c m e = ap (λ (q : Option Mode). settled_by q c) e
 
 pub settle_reach : {m : Mode} (c : Control) → Reach m c → Reach m (settled c)
 unfolding entered
@@ -66,17 +65,17 @@ pub settle_flags : (c : Control) → (settled c).flags ≡ c.flags
 unfolding settled entered
 settle_flags c = go c.state.request
   where
-    go : (q : Request) → (settled_by q c).flags ≡ c.flags
-    go Nothing = refl
-    go (Wanted m) = either (λ (d : Control). d.flags ≡ c.flags) (free_to_change c) {x = entered (with_request c Nothing) m} {y = c} refl refl
+    go : (q : Option Mode) → (settled_by q c).flags ≡ c.flags
+    go None = refl
+    go (Some m) = either (λ (d : Control). d.flags ≡ c.flags) (free_to_change c) {x = entered (with_request c None) m} {y = c} refl refl
 
 pub settle_rx : (c : Control) → (settled c).rx ≡ c.rx
 unfolding settled entered
 settle_rx c = go c.state.request
   where
-    go : (q : Request) → (settled_by q c).rx ≡ c.rx
-    go Nothing = refl
-    go (Wanted m) = either (λ (d : Control). d.rx ≡ c.rx) (free_to_change c) {x = entered (with_request c Nothing) m} {y = c} refl refl
+    go : (q : Option Mode) → (settled_by q c).rx ≡ c.rx
+    go None = refl
+    go (Some m) = either (λ (d : Control). d.rx ≡ c.rx) (free_to_change c) {x = entered (with_request c None) m} {y = c} refl refl
 
 -- ---- an event
 awake : {m : Mode} → sends_in m ≡ true → m ≡ Sleep → ⊥
@@ -173,7 +172,7 @@ module _ (c : Control) (l : ℕ) (m : Mode) (h : l < 32) where
         request = asked_request ∙ ap (λ (n : Mode). request_in n (mode_number m)) e ∙ own m;
       })
     where
-      own : (n : Mode) → request_in n (mode_number n) ≡ Nothing
+      own : (n : Mode) → request_in n (mode_number n) ≡ None
       own Normal = refl
       own Sleep = refl
       own Loopback = refl
@@ -181,9 +180,9 @@ module _ (c : Control) (l : ℕ) (m : Mode) (h : l < 32) where
       own Configuration = refl
 
   -- another mode is asked for, and either entered or waited for
-  module _ (e : request_in c.state.mode (mode_number m) ≡ Wanted m) where
+  module _ (e : request_in c.state.mode (mode_number m) ≡ Some m) where
     asked_other : settled (canctrl_stored c (ask_for l m))
-        ≡ cond (free_to_change (canctrl_stored c (ask_for l m))) (entered (with_request (canctrl_stored c (ask_for l m)) Nothing) m) (canctrl_stored c (ask_for l m))
+        ≡ cond (free_to_change (canctrl_stored c (ask_for l m))) (entered (with_request (canctrl_stored c (ask_for l m)) None) m) (canctrl_stored c (ask_for l m))
     asked_other = wanted_by (canctrl_stored c (ask_for l m)) m (asked_request ∙ e)
 
     asked_free : sends_in c.state.mode ≡ false → Home m (settled (canctrl_stored c (ask_for l m)))
@@ -211,11 +210,11 @@ ask_reach c l m h e = go m e
     d : Control
     d = canctrl_stored c (ask_for l Configuration)
 
-    wait : (n : Mode) → c.state.mode ≡ n → request_in c.state.mode (mode_number Configuration) ≡ Wanted Configuration → sends_in n ≡ true
+    wait : (n : Mode) → c.state.mode ≡ n → request_in c.state.mode (mode_number Configuration) ≡ Some Configuration → sends_in n ≡ true
         → Reach n (settled d)
     wait n e w s =
         rw (asked_other c l Configuration h w)
-        (either (λ (x : Control). Reach n x) (free_to_change d) {x = entered (with_request d Nothing) Configuration} {y = d}
+        (either (λ (x : Control). Reach n x) (free_to_change d) {x = entered (with_request d None) Configuration} {y = d}
         (there (record { mode = refl; request = refl }))
         (waiting (record { mode = canctrl_mode c (ask_for l Configuration) ∙ e; request = asked_request c l Configuration h ∙ w; sends = s })))
 

@@ -6,12 +6,15 @@ use Prim.Native.Nat.{ℕ, ◌+◌, ◌*◌, ◌%◌, ◌<◌, ◌≤◌}
 use native.Mathlib.Omega.{arith}
 use borrow.Author.Tests.{lt-ltb, le-ltb, ltb-true, ltb-false}
 use lib.Dec.{ltb}
+use lib.IntN.{ℤ, pos, neg_ℤ}
 use lib.ListN.{length, length-append}
 use lib.Seq.{drop_at}
 use Rattle.mcp2515.specs.declared.Chip.{Chip}
 use Rattle.mcp2515.specs.declared.Stepped.{Stepped}
 use Rattle.bus_log.specs.Log.{record_size, records_in, steps_of, last_chip}
 use Rattle.bus_log.proofs.Steps.{length_steps, steps_append, steps_prefix, chip_append}
+use Rattle.bus_log.proofs.Helds.{held_kept}
+use Rattle.log_text.specs.Text.{text_refusal, text_result, text_after, TextHeld}
 use Rattle.log_text.specs.Stretch.{records_left, run_in, stretch_refusal, end_line, replayed, replay_of, and_then, followed_by, StretchesJoin}
 use Rattle.log_text.proofs.Lines.{lines_append, lines_prefix}
 
@@ -77,3 +80,17 @@ module _ (c : Chip) (n : ℕ) (a b : List ℕ) (cut : length a % record_size ≡
 
 pub stretches_join : StretchesJoin
 stretches_join = join
+
+-- a call that is refused with the number n
+pub refused_text : (m : List ℕ) (number : ℕ) (part out : List ℕ) (n : ℕ) (r : ℤ) → text_refusal m part out ≡ n → 0 < n → r ≡ neg_ℤ (pos n)
+    → TextHeld m number part out m out r
+unfolding text_result text_after
+refused_text m number part out n r same some told =
+    let t = lt-ltb 0 n some in
+    record {
+      result = told ∙ rw (same, t);
+      buffer = rw (same, t);
+      chip = held_kept (λ z. let none : n ≡ 0 = sym same ∙ z in omega arith);
+      kept = λ _. refl;
+      join = stretches_join;
+    }

@@ -5,15 +5,16 @@ use mathlib.Core.List.{List, [], ◌∷◌, ◌++◌, append_assoc}
 use Prim.Native.Nat.{ℕ, suc, ◌+◌, ◌*◌, ◌-◌, ◌^◌, ◌<◌, ◌≤◌}
 use native.Mathlib.Nat.{add-zero}
 use native.Mathlib.Omega.{arith}
-use lib.ListN.{length, length-append, length-drop, drop, get_or-append}
-use lib.Seq.{get_or-drop, drop-drop, drop-append-le}
+use Rattle.std.proofs.Common.{Some}
+use lib.ListN.{length, length-append, length-drop, take, drop, get_or-append}
+use lib.Seq.{drop-drop, drop-append-le}
 use Rattle.records.specs.declared.Kind.TheVariants.{FrameHeard}
 use Rattle.records.specs.Records.{byte_at, kind_by}
 use Rattle.mcp2515.specs.declared.Chip.{Chip}
 use Rattle.mcp2515.specs.declared.Stepped.{Stepped}
 use Rattle.mcp2515.specs.Step.{step_of, outcome_in}
-use Rattle.bus_log.specs.Log.{record_size, record_at, steps_of, last_chip, all_refused}
-use Rattle.bus_log.proofs.Steps.{next_step}
+use Rattle.bus_log.specs.Log.{record_size, steps_of, last_chip, all_refused}
+use Rattle.bus_log.proofs.Steps.{steps_from}
 use Rattle.bus_log.proofs.Advance.{first_refused}
 use Rattle.log_text.specs.Decimal.{decimal_of, decimal_within}
 use Rattle.log_text.specs.Line.{field_of, line_of, frame_line_of, frame_kind, record_line, lines_of}
@@ -21,7 +22,7 @@ use Rattle.log_text.specs.Storing.{Stored}
 use Rattle.log_text.proofs.Decimals.{decimal_length}
 
 -- the number of a frame's kind
-frame_kind_lem : kind_by frame_kind ≡ FrameHeard
+frame_kind_lem : kind_by frame_kind ≡ Some FrameHeard
 frame_kind_lem = refl
 
 field_length : (n end : ℕ) → length (field_of n end) ≡ length (decimal_of n) + 1
@@ -41,21 +42,29 @@ after_number n end h s = omega (arith, s.place, field_length n end, number_lengt
 pub after_byte : (b end : ℕ) {l m : List ℕ} {at p : ℕ} → b < 2 ^ 8 → Stored l at (field_of b end) m p → p ≤ at + 4
 after_byte b end h s = omega (arith, s.place, field_length b end, byte_length b h)
 
-module _ (left n : ℕ) (c : Chip) (part : List ℕ) (at : ℕ) (s : Stepped) (more : 0 < left) (fits : at + left * record_size ≤ length part) (e : s ≡ step_of c (record_at part at)) where
-  -- the lines from a place on: that of the record there, and those from the next place on
-  pub next_line : lines_of n (drop at part) (steps_of left c (drop at part))
-      ≡ record_line (byte_at part at) (n + 1) (outcome_in s) ++ lines_of (n + 1) (drop (at + record_size) part) (steps_of (left - 1) s.chip (drop (at + record_size) part))
-  unfolding lines_of
-  next_line = rw (next_step left c part at more fits, e, get_or-drop, add-zero, drop-drop record_size at part)
+-- over the chip c, the lines from record i of a part on, of count records: its own, and those from the next one on
+module _ (count i n : ℕ) (c : Chip) (part : List ℕ) (more : i < count) where
+  abbrev step : Stepped
+  step = step_of c (take record_size (drop (record_size * i) part))
 
-  pub next_chip : last_chip c (steps_of left c (drop at part)) ≡ last_chip s.chip (steps_of (left - 1) s.chip (drop (at + record_size) part))
+  abbrev later : List ℕ
+  later = drop (record_size * (i + 1)) part
+
+  pub next_line : lines_of n (drop (record_size * i) part) (steps_of (count - i) c (drop (record_size * i) part))
+      ≡ record_line (byte_at (drop (record_size * i) part) 0) (n + 1) (outcome_in step) ++ lines_of (n + 1) later (steps_of (count - (i + 1)) step.chip later)
+  unfolding lines_of
+  next_line =
+      let d : record_size * (i + 1) ≡ record_size * i + record_size = omega arith in
+      rw (steps_from count i c part more, d, drop-drop record_size (record_size * i) part)
+
+  pub later_chip : last_chip c (steps_of (count - i) c (drop (record_size * i) part)) ≡ last_chip step.chip (steps_of (count - (i + 1)) step.chip later)
   unfolding last_chip
-  next_chip = rw (next_step left c part at more fits, e)
+  later_chip = rw (steps_from count i c part more)
 
   -- where each of these steps was refused, the first was, and so were the others
-  pub next_refused : all_refused (steps_of left c (drop at part)) ≡ true
-      → (s.refusal ≡ 0 → ⊥) × (all_refused (steps_of (left - 1) s.chip (drop (at + record_size) part)) ≡ true)
-  next_refused h = first_refused s _ (rw (next_step left c part at more fits, ← e) at h)
+  pub next_refused : all_refused (steps_of (count - i) c (drop (record_size * i) part)) ≡ true
+      → (step.refusal ≡ 0 → ⊥) × (all_refused (steps_of (count - (i + 1)) step.chip later) ≡ true)
+  next_refused h = first_refused step _ (rw (steps_from count i c part more) at h)
 
 -- the lines of some steps, and then of others from the place after their records
 pub lines_append : (n : ℕ) (log : List ℕ) (ss ts : List Stepped)

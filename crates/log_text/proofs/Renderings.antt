@@ -27,20 +27,22 @@ enough size room e = go (ltb room (stretch_room size)) refl
     go true p = absurd (omega (arith, rw p at e))
     go false p = ltb-false room (stretch_room size) p
 
-pub too_short : (size room : ℕ) → 0 < short_room size room → room < stretch_room size
-too_short size room h = go (ltb room (stretch_room size)) refl
+-- a refusal with the number k
+too_short : (size room k : ℕ) → (k ≡ 0 → ⊥) → k ≡ short_room size room → (room < stretch_room size) × (k ≡ room_refusal)
+too_short size room k some h = go (ltb room (stretch_room size)) refl
   where
-    go : (b : Bool) → ltb room (stretch_room size) ≡ b → room < stretch_room size
-    go true p = ltb-true room (stretch_room size) p
-    go false p = absurd (omega (arith, rw p at h))
+    go : (b : Bool) → ltb room (stretch_room size) ≡ b → (room < stretch_room size) × (k ≡ room_refusal)
+    go true p = (ltb-true room (stretch_room size) p, h ∙ rw p)
+    go false p = absurd (some (h ∙ rw p))
 
 module _ (c : Chip) (n : ℕ) (part out : List ℕ) where
-  pub no_room : length out < stretch_room (length part)
-      → Rendering c n part out out (record { refusal = room_refusal; len = 0; number = n; chip = c })
+  pub no_room : (k : ℕ) → (k ≡ 0 → ⊥) → k ≡ short_room (length part) (length out)
+      → Rendering c n part out out (record { refusal = k; len = 0; number = n; chip = c })
   unfolding rendered_of output_of
-  no_room h =
-      let t = lt-ltb (length out) (stretch_room (length part)) h in
-      record { result = simp t; output = simp t; join = stretches_join; fits = omega arith; counts = refl }
+  no_room k some h =
+      let short = too_short (length part) (length out) k some h in
+      let t = lt-ltb (length out) (stretch_room (length part)) short.0 in
+      record { result = rw (short.1, t); output = simp t; join = stretches_join; fits = omega arith; counts = refl }
 
   -- the text is stored, and the result has what is shown beside it
   whole_text : (after : List ℕ) (r : Rendered) → stretch_room (length part) ≤ length out

@@ -1,5 +1,5 @@
 -- The lines that a replay prints. Assumes nothing: these are definitions.
-use Rattle.std.specs.Prelude.{List, [], ◌∷◌, ◌++◌, cond, ℕ, ◌+◌, eqb, drop}
+use Rattle.std.specs.Prelude.{Option, Some, None, List, [], ◌∷◌, ◌++◌, cond, ℕ, ◌+◌, eqb, drop}
 use Rattle.records.specs.declared.Outcome.{Outcome}
 use Rattle.records.specs.Records.{byte_at}
 use Rattle.mcp2515.specs.declared.Stepped.{Stepped}
@@ -24,6 +24,11 @@ line_of number refusal answer = field_of number space ++ (field_of refusal space
 -- .. and then the set
 unfoldable pub frame_line_of : ℕ → Outcome → List ℕ
 frame_line_of number o = field_of number space ++ (field_of o.refusal space ++ (field_of o.answer space ++ field_of o.matched newline))
+
+-- the line of a record with a set, where it has one
+abbrev pub line_with : ℕ → ℕ → ℕ → Option ℕ → List ℕ
+line_with number refusal answer None = line_of number refusal answer
+line_with number refusal answer (Some set) = frame_line_of number (record { refusal = refusal; answer = answer; matched = set })
 
 -- the line of a record by its byte 0: a frame, refused or not, has its set as a fourth number
 abbrev pub frame_kind : ℕ

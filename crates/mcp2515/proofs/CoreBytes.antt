@@ -1,4 +1,5 @@
 -- No bus event looks at the bytes of a free transmit buffer, and a store into one changes its bytes alone. Assumes nothing.
+use Rattle.std.proofs.Common.{Option, Some, None}
 use mathlib.Core.Bool.{Bool, true, false, cond}
 use mathlib.Core.Path.{◌≡◌, refl, ap}
 use mathlib.Core.List.{List}
@@ -10,13 +11,11 @@ use lib.Seq.{get_or-set_other}
 use borrow.Author.Tests.{eqb-false, not-true}
 use Rattle.bits.specs.Bit.{has_bit, merged}
 use Rattle.records.specs.declared.Kind.{Kind}
-use Rattle.records.specs.declared.Kind.TheVariants.{SelectLow, Exchange, SelectHigh, FrameHeard, BusIdle, FrameEnds, ReceiveError, Recovery, PinLevel, Unknown}
+use Rattle.records.specs.declared.Kind.TheVariants.{SelectLow, Exchange, SelectHigh, FrameHeard, BusIdle, FrameEnds, ReceiveError, Recovery, PinLevel}
 use Rattle.records.specs.declared.Frame.{Frame}
 use Rattle.records.specs.Records.{accepted, byte_at, kind_of, frame_of}
 use Rattle.registers.specs.declared.Mode.{Mode}
 use Rattle.registers.specs.declared.Mode.TheVariants.{Normal, Sleep, Loopback, ListenOnly, Configuration}
-use Rattle.registers.specs.declared.Flight.{Flight}
-use Rattle.registers.specs.declared.Flight.TheVariants.{Idle, Of}
 use Rattle.registers.specs.declared.TxBuffer.{TxBuffer}
 use Rattle.registers.specs.declared.Core.{Core}
 use Rattle.registers.specs.State.{wakif_bit, txreq_bit, is_loopback, tx_number, same_tx, in_flight, tx_control, with_control, with_tx_bytes, with_level, rts_bit, with_pins}
@@ -70,28 +69,28 @@ module _ (t : List ℕ) (k : Core) where
   ends_with true b Failed same = refl
   ends_with false b e same = refl
 
-  flight_with : (l : Flight) (e : End) → ((b : TxBuffer) → l ≡ Of b → frame_sent t b ≡ frame_sent k.tx b)
+  flight_with : (l : Option TxBuffer) (e : End) → ((b : TxBuffer) → l ≡ Some b → frame_sent t b ≡ frame_sent k.tx b)
       → ends_by l (with_tx_bytes k t) e ≡ happened_with t (ends_by l k e)
-  flight_with Idle e same = refl
-  flight_with (Of b) e same = ends_with (is_loopback k.control.state.mode) b e (same b refl)
+  flight_with None e same = refl
+  flight_with (Some b) e same = ends_with (is_loopback k.control.state.mode) b e (same b refl)
 
-  module _ (same : (b : TxBuffer) → k.control.state.flight ≡ Of b → frame_sent t b ≡ frame_sent k.tx b) where
-    happens_with : (q : Kind) (r : List ℕ) → happens_by q (with_tx_bytes k t) r ≡ happened_with t (happens_by q k r)
+  module _ (same : (b : TxBuffer) → k.control.state.flight ≡ Some b → frame_sent t b ≡ frame_sent k.tx b) where
+    happens_with : (q : Option Kind) (r : List ℕ) → happens_by q (with_tx_bytes k t) r ≡ happened_with t (happens_by q k r)
     unfolding heard_of idled ended pinned
-    happens_with SelectLow r = refl
-    happens_with Exchange r = refl
-    happens_with SelectHigh r = refl
-    happens_with FrameHeard r = ap answered (heard_with k.control.state.mode (frame_of r))
-    happens_with BusIdle r = refl
-    happens_with FrameEnds r = flight_with k.control.state.flight (end_of (byte_at r 1)) same
-    happens_with ReceiveError r = refl
-    happens_with Recovery r = refl
-    happens_with PinLevel r =
+    happens_with (Some SelectLow) r = refl
+    happens_with (Some Exchange) r = refl
+    happens_with (Some SelectHigh) r = refl
+    happens_with (Some FrameHeard) r = ap answered (heard_with k.control.state.mode (frame_of r))
+    happens_with (Some BusIdle) r = refl
+    happens_with (Some FrameEnds) r = flight_with k.control.state.flight (end_of (byte_at r 1)) same
+    happens_with (Some ReceiveError) r = refl
+    happens_with (Some Recovery) r = refl
+    happens_with (Some PinLevel) r =
         let b : TxBuffer = pin_of (byte_at r 1) in
         let high : Bool = is_high_level (byte_at r 2) in
         ap (λ (j : Core). plain 0 (with_pins j (with_level k.pins b high)))
         (cond_ap (λ (j : Core). with_tx_bytes j t) (falls_enabled k b high) (with_control k (requested_to_send k.control (rts_bit b))) k)
-    happens_with Unknown r = refl
+    happens_with None r = refl
 
     -- an event does not see bytes that are not in flight
     pub event_with : (r : List ℕ) → event_of (with_tx_bytes k t) r ≡ told_with t (event_of k r)

@@ -1,5 +1,6 @@
 -- What a bus event leaves: a full receive buffer stays full with its bytes, a free transmit buffer stays free, filters, masks and
 -- bytes to send stay. Assumes nothing.
+use Rattle.std.proofs.Common.{Option, Some, None}
 use mathlib.Core.Bool.{Bool, true, false, cond, not, ◌&&◌, ◌||◌}
 use mathlib.Core.Path.{◌≡◌, ◌∙◌, refl, sym, ap}
 use mathlib.Core.List.{List}
@@ -12,7 +13,7 @@ use borrow.Author.Tests.{leb-true, leb-false, eqb-true, eqb-false}
 use Rattle.bits.specs.Bit.{has_bit, set_bit, clear_bit}
 use Rattle.bits.proofs.Laws.{has_set_same, has_set_other, has_clear_same}
 use Rattle.records.specs.declared.Kind.{Kind}
-use Rattle.records.specs.declared.Kind.TheVariants.{SelectLow, Exchange, SelectHigh, FrameHeard, BusIdle, FrameEnds, ReceiveError, Recovery, PinLevel, Unknown}
+use Rattle.records.specs.declared.Kind.TheVariants.{SelectLow, Exchange, SelectHigh, FrameHeard, BusIdle, FrameEnds, ReceiveError, Recovery, PinLevel}
 use Rattle.records.specs.declared.Frame.{Frame}
 use Rattle.records.specs.Records.{accepted, byte_at, kind_of, frame_of}
 use Rattle.registers.specs.declared.Mode.{Mode}
@@ -21,25 +22,18 @@ use Rattle.registers.specs.declared.RxBuffer.{RxBuffer}
 use Rattle.registers.specs.declared.RxBuffer.TheVariants.{Rxb0, Rxb1}
 use Rattle.registers.specs.declared.TxBuffer.{TxBuffer}
 use Rattle.registers.specs.declared.TxBuffer.TheVariants.{Txb0, Txb1, Txb2}
-use Rattle.registers.specs.declared.Flight.{Flight}
-use Rattle.registers.specs.declared.Flight.TheVariants.{Idle, Of}
-use Rattle.registers.specs.declared.Request.{Request}
-use Rattle.registers.specs.declared.Request.TheVariants.{Nothing, Wanted}
 use Rattle.registers.specs.declared.TxControl.{TxControl}
 use Rattle.registers.specs.declared.Counters.{Counters}
 use Rattle.registers.specs.declared.Control.{Control}
 use Rattle.registers.specs.declared.Core.{Core}
-use Rattle.registers.specs.State.{rx0if_bit, rx1if_bit, errif_bit, wakif_bit, merrf_bit, osm_bit, txreq_bit, txerr_bit, mloa_bit, abtf_bit, bukt_bit, is_normal, is_loopback, rx_flag, tx_flag, same_tx, in_flight, tx_control, with_tx_control, with_canintf, with_control, level_of, with_level, rts_bit}
+use Rattle.registers.specs.State.{rx1if_bit, errif_bit, wakif_bit, merrf_bit, osm_bit, txreq_bit, txerr_bit, mloa_bit, abtf_bit, bukt_bit, is_normal, is_loopback, rx_flag, tx_flag, same_tx, in_flight, tx_control, with_tx_control, with_canintf, with_control, level_of, with_level, rts_bit}
 use Rattle.registers.specs.Errors.{is_bus_off, error_flags, rises, moved_to, tec_less, tec_more, rec_less, rec_more}
 use Rattle.registers.specs.Modes.{waits, entered, free_to_change, settled_by, settled}
 use Rattle.stores.specs.Store.{is_locked, requested_to_send}
 use Rattle.registers.specs.State.{aborts_all}
-use Rattle.receiving.specs.declared.Hit.{Hit}
-use Rattle.receiving.specs.declared.Hit.TheVariants.{Filter, Miss}
 use Rattle.receiving.specs.declared.Verdict.{Verdict}
-use Rattle.receiving.specs.declared.Verdict.TheVariants.{Unmatched, Stored0, Stored1, RolledOver, Lost0, Lost1}
+use Rattle.receiving.specs.declared.Verdict.TheVariants.{Unmatched, Stored, RolledOver, Lost}
 use Rattle.receiving.specs.Receiving.{Received, matches, hit_for, is_full, verdict_by, verdict_of, match_of, control_after, filled, headed, bytes_stored, bytes_after, received_of}
-use Rattle.controller.specs.declared.Choice.TheVariants.{Send, Nobody}
 use Rattle.controller.specs.declared.End.{End}
 use Rattle.controller.specs.declared.End.TheVariants.{Sent, LostArbitration, Failed}
 use Rattle.controller.specs.Sending.{rank_of, best_of, choice_of, end_of, started, may_send, after_failure, counted, with_ctrl, sent_by, lost_by, failed_by, ended_by, frame_sent}
@@ -100,17 +94,15 @@ module _ (asked : TxBuffer → Bool) where
   unfolding settled entered
   settled_keeps c = go c.state.request
     where
-      go : (q : Request) → Keeps c (settled_by q c)
-      go Nothing = same c
-      go (Wanted m) = either (λ (d : Control). Keeps c d) (free_to_change c) (record { full = λ b h. h; free = λ b n h. h }) (same c)
+      go : (q : Option Mode) → Keeps c (settled_by q c)
+      go None = same c
+      go (Some m) = either (λ (d : Control). Keeps c d) (free_to_change c) (record { full = λ b h. h; free = λ b n h. h }) (same c)
 
   verdict_keeps : (v : Verdict) (c : Control) (remote : Bool) → Keeps c (control_after v c remote)
   verdict_keeps Unmatched c remote = same c
-  verdict_keeps (Stored0 h) c remote = record { full = set_keeps c.flags.canintf rx0if_bit (lit< tt); free = λ b n h. h }
-  verdict_keeps (Stored1 h) c remote = record { full = set_keeps c.flags.canintf rx1if_bit (lit< tt); free = λ b n h. h }
+  verdict_keeps (Stored b h) c remote = record { full = set_keeps c.flags.canintf (rx_flag b) (rx_small b); free = λ b n h. h }
   verdict_keeps (RolledOver h) c remote = record { full = set_keeps c.flags.canintf rx1if_bit (lit< tt); free = λ b n h. h }
-  verdict_keeps Lost0 c remote = record { full = set_keeps c.flags.canintf errif_bit (lit< tt); free = λ b n h. h }
-  verdict_keeps Lost1 c remote = record { full = set_keeps c.flags.canintf errif_bit (lit< tt); free = λ b n h. h }
+  verdict_keeps (Lost b) c remote = record { full = set_keeps c.flags.canintf errif_bit (lit< tt); free = λ b n h. h }
 
   woken_keeps : (c : Control) → Keeps c (woken_control c)
   unfolding entered
@@ -238,7 +230,7 @@ module _ (asked : TxBuffer → Bool) where
   unfolding choice_of
   started_keeps c = go (may_send c && waits c.tx) refl
     where
-      go : (b : Bool) → may_send c && waits c.tx ≡ b → Keeps c (started (cond b (Send (best_of c.tx)) Nobody) c)
+      go : (b : Bool) → may_send c && waits c.tx ≡ b → Keeps c (started (cond b (Some (best_of c.tx)) None) c)
       go true e = record {
         full = λ b h. h;
         free = λ b _ h.
@@ -250,36 +242,35 @@ module _ (asked : TxBuffer → Bool) where
   -- ---- a full buffer takes no frame
   fills : Verdict → RxBuffer → Bool
   fills Unmatched b = false
-  fills (Stored0 h) Rxb0 = true
-  fills (Stored0 h) Rxb1 = false
-  fills (Stored1 h) Rxb0 = false
-  fills (Stored1 h) Rxb1 = true
+  fills (Stored Rxb0 h) Rxb0 = true
+  fills (Stored Rxb0 h) Rxb1 = false
+  fills (Stored Rxb1 h) Rxb0 = false
+  fills (Stored Rxb1 h) Rxb1 = true
   fills (RolledOver h) Rxb0 = false
   fills (RolledOver h) Rxb1 = true
-  fills Lost0 b = false
-  fills Lost1 b = false
+  fills (Lost d) b = false
 
-  spares_by : (c : Control) (x y : Hit) (b : RxBuffer) → has_bit c.flags.canintf (rx_flag b) ≡ true → fills (verdict_by c x y) b ≡ false
+  spares_by : (c : Control) (x y : Option ℕ) (b : RxBuffer) → has_bit c.flags.canintf (rx_flag b) ≡ true → fills (verdict_by c x y) b ≡ false
   unfolding fills
-  spares_by c (Filter h) y Rxb0 e = rw e (go (has_bit c.rx.rxb0 bukt_bit) (is_full c Rxb1))
+  spares_by c (Some h) y Rxb0 e = rw e (go (has_bit c.rx.rxb0 bukt_bit) (is_full c Rxb1))
     where
-      go : (p q : Bool) → fills (cond p (cond q Lost1 (RolledOver h)) Lost0) Rxb0 ≡ false
+      go : (p q : Bool) → fills (cond p (cond q (Lost Rxb1) (RolledOver h)) (Lost Rxb0)) Rxb0 ≡ false
       go true true = refl
       go true false = refl
       go false q = refl
-  spares_by c (Filter h) y Rxb1 e = rw e (go (has_bit c.rx.rxb0 bukt_bit) (is_full c Rxb0))
+  spares_by c (Some h) y Rxb1 e = rw e (go (has_bit c.rx.rxb0 bukt_bit) (is_full c Rxb0))
     where
-      go : (p q : Bool) → fills (cond q (cond p Lost1 Lost0) (Stored0 h)) Rxb1 ≡ false
+      go : (p q : Bool) → fills (cond q (cond p (Lost Rxb1) (Lost Rxb0)) (Stored Rxb0 h)) Rxb1 ≡ false
       go true true = refl
       go false true = refl
       go p false = refl
-  spares_by c Miss Miss b e = refl
-  spares_by c Miss (Filter h) Rxb0 e = go (is_full c Rxb1)
+  spares_by c None None b e = refl
+  spares_by c None (Some h) Rxb0 e = go (is_full c Rxb1)
     where
-      go : (p : Bool) → fills (cond p Lost1 (Stored1 h)) Rxb0 ≡ false
+      go : (p : Bool) → fills (cond p (Lost Rxb1) (Stored Rxb1 h)) Rxb0 ≡ false
       go true = refl
       go false = refl
-  spares_by c Miss (Filter h) Rxb1 e = rw e
+  spares_by c None (Some h) Rxb1 e = rw e
 
   spares : (k : Core) (f : Frame) (b : RxBuffer) → is_full k.control b ≡ true → fills (verdict_of k.control k.config f) b ≡ false
   unfolding verdict_of
@@ -305,14 +296,13 @@ module _ (asked : TxBuffer → Bool) where
       → get_or (bytes_after v rx f) (a % 32) 0 ≡ get_or rx (a % 32) 0
   unfolding fills
   bytes_other Unmatched rx f b a e t = refl
-  bytes_other (Stored0 h) rx f Rxb0 a e t = clash e
-  bytes_other (Stored0 h) rx f Rxb1 a e t = stored_other rx 0 f (a % 32) (λ n hn z. omega (arith, t.from, t.to))
-  bytes_other (Stored1 h) rx f Rxb0 a e t = stored_other rx 16 f (a % 32) (λ n hn z. omega (arith, t.from, t.to))
-  bytes_other (Stored1 h) rx f Rxb1 a e t = clash e
+  bytes_other (Stored Rxb0 h) rx f Rxb0 a e t = clash e
+  bytes_other (Stored Rxb0 h) rx f Rxb1 a e t = stored_other rx 0 f (a % 32) (λ n hn z. omega (arith, t.from, t.to))
+  bytes_other (Stored Rxb1 h) rx f Rxb0 a e t = stored_other rx 16 f (a % 32) (λ n hn z. omega (arith, t.from, t.to))
+  bytes_other (Stored Rxb1 h) rx f Rxb1 a e t = clash e
   bytes_other (RolledOver h) rx f Rxb0 a e t = stored_other rx 16 f (a % 32) (λ n hn z. omega (arith, t.from, t.to))
   bytes_other (RolledOver h) rx f Rxb1 a e t = clash e
-  bytes_other Lost0 rx f b a e t = refl
-  bytes_other Lost1 rx f b a e t = refl
+  bytes_other (Lost d) rx f b a e t = refl
 
   -- ---- the core
   pub record Kept (k j : Core) : Type 0 where
@@ -366,9 +356,9 @@ module _ (asked : TxBuffer → Bool) where
   ends_kept true k b Failed = whole k (ended_by Failed k.control b) (ended_keeps Failed k.control b)
   ends_kept false k b e = whole k (ended_by e k.control b) (ended_keeps e k.control b)
 
-  flight_kept : (l : Flight) (k : Core) (e : End) → Kept k (ends_by l k e).core
-  flight_kept Idle k e = untouched k
-  flight_kept (Of b) k e = ends_kept (is_loopback k.control.state.mode) k b e
+  flight_kept : (l : Option TxBuffer) (k : Core) (e : End) → Kept k (ends_by l k e).core
+  flight_kept None k e = untouched k
+  flight_kept (Some b) k e = ends_kept (is_loopback k.control.state.mode) k b e
 
   -- ---- a request pin: the buffer of the pin may come to wait, and no other
   pin_free : (k : Core) (p b : TxBuffer) (high : Bool) → falls_enabled k b (level_of (with_level k.pins p high) b) ≡ false
@@ -401,19 +391,19 @@ module _ (asked : TxBuffer → Bool) where
       }
 
 -- ---- whatever happens; a buffer is asked for by the fall of its enabled pin
-happens_kept : (q : Kind) (k : Core) (r : List ℕ)
+happens_kept : (q : Option Kind) (k : Core) (r : List ℕ)
     → Kept (λ b. falls_enabled k b (level_of (happens_by q k r).core.pins b)) k (happens_by q k r).core
 unfolding heard_of idled ended pinned
-happens_kept SelectLow k r = untouched _ k
-happens_kept Exchange k r = untouched _ k
-happens_kept SelectHigh k r = untouched _ k
-happens_kept FrameHeard k r = heard_kept _ k.control.state.mode k (frame_of r)
-happens_kept BusIdle k r = whole _ k (started (choice_of k.control) k.control) (started_keeps _ k.control)
-happens_kept FrameEnds k r = flight_kept _ k.control.state.flight k (end_of (byte_at r 1))
-happens_kept ReceiveError k r = whole _ k (error_heard k.control (byte_at r 1)) (error_keeps _ k.control (byte_at r 1))
-happens_kept Recovery k r = whole _ k (recovered k.control) (record { full = λ b h. h; free = λ b n h. h })
-happens_kept PinLevel k r = pin_kept _ k (pin_of (byte_at r 1)) (is_high_level (byte_at r 2)) (λ b n. n)
-happens_kept Unknown k r = untouched _ k
+happens_kept (Some SelectLow) k r = untouched _ k
+happens_kept (Some Exchange) k r = untouched _ k
+happens_kept (Some SelectHigh) k r = untouched _ k
+happens_kept (Some FrameHeard) k r = heard_kept _ k.control.state.mode k (frame_of r)
+happens_kept (Some BusIdle) k r = whole _ k (started (choice_of k.control) k.control) (started_keeps _ k.control)
+happens_kept (Some FrameEnds) k r = flight_kept _ k.control.state.flight k (end_of (byte_at r 1))
+happens_kept (Some ReceiveError) k r = whole _ k (error_heard k.control (byte_at r 1)) (error_keeps _ k.control (byte_at r 1))
+happens_kept (Some Recovery) k r = whole _ k (recovered k.control) (record { full = λ b h. h; free = λ b n h. h })
+happens_kept (Some PinLevel) k r = pin_kept _ k (pin_of (byte_at r 1)) (is_high_level (byte_at r 2)) (λ b n. n)
+happens_kept None k r = untouched _ k
 
 pub event_kept : (k : Core) (r : List ℕ) → Kept (asks k r) k (event_of k r).core
 unfolding event_of

@@ -1,12 +1,12 @@
 -- The last act of a step, carried out twice, is carried out once: every core after an accepted step is Good. Assumes nothing.
+use Rattle.std.proofs.Common.{Option, Some, None}
 use mathlib.Core.Bool.{Bool, true, false, cond}
 use mathlib.Core.Path.{◌≡◌, refl, ap}
 use mathlib.Core.List.{List}
 use Prim.Native.Nat.{ℕ}
 use lib.Dec.{eqb}
 use Rattle.records.specs.Records.{accepted, kind_of}
-use Rattle.registers.specs.declared.Request.{Request}
-use Rattle.registers.specs.declared.Request.TheVariants.{Nothing, Wanted}
+use Rattle.registers.specs.declared.Mode.{Mode}
 use Rattle.registers.specs.declared.Control.{Control}
 use Rattle.registers.specs.declared.Core.{Core}
 use Rattle.registers.specs.State.{with_request, with_control}
@@ -19,12 +19,12 @@ use Rattle.spi.specs.declared.Act.TheVariants.{Rest, ResetAll, Fetch, Store, Mod
 use Rattle.spi.specs.Instructions.{cleared_of, acted}
 use Rattle.mcp2515.proofs.CoreFacts.{Good}
 
-settled_by_lem : (q : Request) (c : Control) → c.state.request ≡ q → settled (settled_by q c) ≡ settled_by q c
+settled_by_lem : (q : Option Mode) (c : Control) → c.state.request ≡ q → settled (settled_by q c) ≡ settled_by q c
 unfolding settled entered free_to_change
-settled_by_lem Nothing c e = rw e
-settled_by_lem (Wanted m) c e = go (free_to_change c) refl
+settled_by_lem None c e = rw e
+settled_by_lem (Some m) c e = go (free_to_change c) refl
   where
-    go : (b : Bool) → free_to_change c ≡ b → settled (cond b (entered (with_request c Nothing) m) c) ≡ cond b (entered (with_request c Nothing) m) c
+    go : (b : Bool) → free_to_change c ≡ b → settled (cond b (entered (with_request c None) m) c) ≡ cond b (entered (with_request c None) m) c
     go true f = refl
     go false f = rw (e, f)
 

@@ -1,4 +1,5 @@
 -- Lists tidied by computation, over the chip from power-on. Assumes nothing.
+use Rattle.std.proofs.Common.{None}
 use mathlib.Core.List.{List, [], ◌∷◌, ◌++◌}
 use mathlib.Core.Logic.{◌≢◌}
 use mathlib.Core.Path.{◌≡◌, refl, sym, ap, ◌∙◌}
@@ -15,8 +16,6 @@ use Rattle.controller.specs.Sending.{best_of, choice_of, sent_by}
 use Rattle.controller.specs.Events.{heard_of, idled, ended, error_heard, pinned, event_refusal, event_of}
 use Rattle.registers.specs.declared.Flags.{Flags}
 use Rattle.registers.specs.declared.Mode.TheVariants.{Normal}
-use Rattle.registers.specs.declared.Flight.TheVariants.{Idle}
-use Rattle.registers.specs.declared.Request.TheVariants.{Nothing}
 use Rattle.spi.specs.declared.Select.TheVariants.{Raised}
 use Rattle.mcp2515.specs.declared.Chip.{Chip}
 use Rattle.spi.specs.Instructions.{buffer_command, command_of}
@@ -90,7 +89,7 @@ rested f ctrl heard sidl dlc d =
           tx = record { txb0 = 0; txb1 = 0; txb2 = 0 };
           rx = record { rxb0 = ctrl; rxb1 = 0 };
           counters = record { tec = 0; rec = heard };
-          state = record { mode = Normal; flight = Idle; request = Nothing };
+          state = record { mode = Normal; flight = None; request = None };
         };
         config = replicate 48 0;
         tx = replicate 48 0;

@@ -4,7 +4,6 @@ pub mod CoreKept
 pub mod CoreRegions
 pub mod CoreBytes
 pub mod CoreLaws
-pub mod Plain
 pub mod Sides
 pub mod Images
 pub mod Refused

@@ -1,4 +1,5 @@
 -- A session of the panel that only looks leaves what the events inside alone leave. Assumes nothing.
+use Rattle.std.proofs.Common.{Some}
 use mathlib.Core.Bool.{Bool, true, false, cond, ◌||◌}
 use mathlib.Core.List.{List, [], ◌∷◌}
 use mathlib.Core.Path.{◌≡◌, refl, sym, ap, subst, ◌∙◌}
@@ -158,7 +159,7 @@ beside_exchange : (d e : Chip) (r : List ℕ) (bs : List ℕ) → role_at d r �
 beside_exchange d e r bs h b =
     let i : Instruction = b.inside.0 in
     let w = exchanged i (byte_at r 1) bs d.core b.inside.2 b.good in
-    let a : Accepted d r Exchange = accepted_as d r exchange refl h in
+    let a : Accepted d r (Some Exchange) = accepted_as d r exchange refl h in
     subst (λ (x : Chip). Beside x e bs) (sym (taken_next d r Panel i a b.inside.1))
     (record {
       inside = (next_by Panel i (byte_at r 1), refl, w.1);
@@ -191,7 +192,7 @@ run (r ∷ qs) d e n b = go (role_at d r) refl (λ x y. run qs x y)
 beside_low : (c : Chip) (l : List ℕ) (bs : List ℕ) → Good c.core → role_at c l ≡ low → speaker_in l ≡ Panel → looking bs ≡ true → Beside (next_chip c l) c bs
 beside_low c l bs g h p t = go c.select refl (accepted_as c l low refl h)
   where
-    go : (s : Select) → c.select ≡ s → Accepted c l SelectLow → Beside (next_chip c l) c bs
+    go : (s : Select) → c.select ≡ s → Accepted c l (Some SelectLow) → Beside (next_chip c l) c bs
     go Raised e a =
         subst (λ (x : Chip). Beside x c bs) (sym (low_next c l a e ∙ ap (λ (w : Speaker). chip (acted Rest c.core) w First) p))
         (record { inside = (First, refl, (refl, t)); same = sym g; good = subst Good (sym g) g })
@@ -203,7 +204,7 @@ or_true false y e = e
 
 high_panel : (c : Chip) (h : List ℕ) → role_at c h ≡ high → panel_selected c.select ≡ true → is_panel_record c h ≡ true
 high_panel c h e p =
-    let a : Accepted c h SelectHigh = accepted_as c h high refl e in
+    let a : Accepted c h (Some SelectHigh) = accepted_as c h high refl e in
     rw a.plain (or_true (is_panel (speaker_in h)) (panel_selected c.select) p)
 
 pub looking_sessions : LookingSessions

@@ -1,7 +1,7 @@
 -- What the tidied list keeps, of any list of entries. Assumes nothing.
+use Rattle.std.proofs.Common.{Option, Some, None}
 use mathlib.Core.Bool.{Bool, true, false}
 use mathlib.Core.List.{List, [], ◌∷◌, ◌++◌, append_assoc, append-nil, cons-ne-nil}
-use mathlib.Core.Option.{Option, none, some}
 use mathlib.Core.Path.{◌≡◌, refl, sym, ap, ap₂, subst, ◌∙◌}
 use Prim.Native.Nat.{ℕ, zero, suc}
 use Rattle.mcp2515.specs.Moments.{Role, event, low, exchange, high, other, is_event_role, is_low, is_exchange, is_high, Entry, role_in, listed, events, others, before, after, placed, session, outside, inside, tidy_from, tidy, SameOrder, Still, Apart, TidyKept, Inner, TidyIs}
@@ -98,8 +98,8 @@ kept_append a b c d h k = record {
 placed_kept : (o : Option ℕ) (l : Entry) (s : List Entry) (h : Entry) → is_event_role (role_in l) ≡ false → is_event_role (role_in h) ≡ false
     → Kept (placed o l s h) (l ∷ (s ++ (h ∷ [])))
 unfolding placed
-placed_kept none l s h el eh = kept_refl (l ∷ (s ++ (h ∷ [])))
-placed_kept (some k) l s h el eh = record {
+placed_kept None l s h el eh = kept_refl (l ∷ (s ++ (h ∷ [])))
+placed_kept (Some k) l s h el eh = record {
   kept_events = simp (events_append, events-events, events-others, events_skip, events_nil, append-nil, el, eh) (events_parts k s);
   kept_others = simp (others_append, others-events, others-others, others_keep, others_nil, el, eh);
 }
@@ -135,8 +135,8 @@ others_all (x ∷ s) e =
 -- A listed session with no event inside stays as it is, and so does one that is not listed.
 placed_same : (o : Option ℕ) (l : Entry) (s : List Entry) (h : Entry) → Still o s → placed o l s h ≡ l ∷ (s ++ (h ∷ []))
 unfolding placed
-placed_same none l s h e = refl
-placed_same (some k) l s h e =
+placed_same None l s h e = refl
+placed_same (Some k) l s h e =
     let p = no_parts (events (before k s)) (events (after k s)) (events_parts k s ∙ e) in rw (p.0, p.1, others_all s e)
 
 -- ---- whole lists

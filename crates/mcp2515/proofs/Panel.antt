@@ -1,4 +1,5 @@
 -- Isolation: what a record of the panel asks of the core, and what that leaves as it was. Assumes nothing.
+use Rattle.std.proofs.Common.{Option, Some, None}
 use mathlib.Core.Bool.{Bool, true, false, cond, not, ◌&&◌, ◌||◌}
 use mathlib.Core.List.{List, ◌++◌}
 use mathlib.Core.Path.{◌≡◌, refl, sym, ap, ap₂, subst, ◌∙◌}
@@ -13,11 +14,9 @@ use Rattle.bits.specs.Bit.{has_bit, set_bit, clear_bit}
 use Rattle.bits.proofs.All.{every, agree}
 use Rattle.bits.proofs.Laws.{set_bitwise}
 use Rattle.records.specs.declared.Kind.{Kind}
-use Rattle.records.specs.declared.Kind.TheVariants.{SelectLow, Exchange, SelectHigh, FrameHeard, BusIdle, FrameEnds, ReceiveError, Recovery, PinLevel, Unknown}
+use Rattle.records.specs.declared.Kind.TheVariants.{SelectLow, Exchange, SelectHigh, FrameHeard, BusIdle, FrameEnds, ReceiveError, Recovery, PinLevel}
 use Rattle.records.specs.Records.{byte_at, kind_of, is_event, sound_of}
 use Rattle.registers.specs.declared.Mode.{Mode}
-use Rattle.registers.specs.declared.Request.{Request}
-use Rattle.registers.specs.declared.Request.TheVariants.{Nothing, Wanted}
 use Rattle.registers.specs.declared.TxBuffer.TheVariants.{Txb0, Txb1, Txb2}
 use Rattle.registers.specs.declared.RxBuffer.TheVariants.{Rxb0, Rxb1}
 use Rattle.registers.specs.declared.Flags.{Flags}
@@ -130,20 +129,20 @@ spoken_asks Controller Panel x e h = refl
 spoken_asks Panel Controller x e h = refl
 spoken_asks Panel Panel x e h = h
 
-asks_by : (g : Kind) (s : Select) (p : Speaker) (b : ℕ) → (is_panel p || panel_selected s) ≡ true → Asks (asked_by g s p b)
-asks_by SelectLow Raised p b e = refl
-asks_by SelectLow (Lowered q i) p b e = refl
-asks_by Exchange Raised p b e = refl
-asks_by Exchange (Lowered q i) p b e = spoken_asks q p (λ w. act_by w i b) e (act_asks i b)
-asks_by SelectHigh Raised p b e = refl
-asks_by SelectHigh (Lowered q i) p b e = spoken_asks q p (λ w. high_act w i) e (high_asks i)
-asks_by FrameHeard s p b e = refl
-asks_by BusIdle s p b e = refl
-asks_by FrameEnds s p b e = refl
-asks_by ReceiveError s p b e = refl
-asks_by Recovery s p b e = refl
-asks_by PinLevel s p b e = refl
-asks_by Unknown s p b e = refl
+asks_by : (g : Option Kind) (s : Select) (p : Speaker) (b : ℕ) → (is_panel p || panel_selected s) ≡ true → Asks (asked_by g s p b)
+asks_by (Some SelectLow) Raised p b e = refl
+asks_by (Some SelectLow) (Lowered q i) p b e = refl
+asks_by (Some Exchange) Raised p b e = refl
+asks_by (Some Exchange) (Lowered q i) p b e = spoken_asks q p (λ w. act_by w i b) e (act_asks i b)
+asks_by (Some SelectHigh) Raised p b e = refl
+asks_by (Some SelectHigh) (Lowered q i) p b e = spoken_asks q p (λ w. high_act w i) e (high_asks i)
+asks_by (Some FrameHeard) s p b e = refl
+asks_by (Some BusIdle) s p b e = refl
+asks_by (Some FrameEnds) s p b e = refl
+asks_by (Some ReceiveError) s p b e = refl
+asks_by (Some Recovery) s p b e = refl
+asks_by (Some PinLevel) s p b e = refl
+asks_by None s p b e = refl
 
 panel_asks : (s : Select) (r : List ℕ) → (is_panel (speaker_in r) || panel_selected s) ≡ true → Asks (asked s r)
 unfolding asked
@@ -210,9 +209,9 @@ settled_same c = go c.state.request
     here : Same c c
     here = record { flags = refl; tx = refl; rx = refl }
 
-    go : (q : Request) → Same c (settled_by q c)
-    go Nothing = here
-    go (Wanted m) = either (Same c) (free_to_change c) {x = entered (with_request c Nothing) m} {y = c} (record { flags = refl; tx = refl; rx = refl }) here
+    go : (q : Option Mode) → Same c (settled_by q c)
+    go None = here
+    go (Some m) = either (Same c) (free_to_change c) {x = entered (with_request c None) m} {y = c} (record { flags = refl; tx = refl; rx = refl }) here
 
 settled_guarded : (g : Region) (k : Core) (y : ℕ) → is_guarded_in g y ≡ true → holds_in g (settled_core k) y ≡ holds_in g k y
 settled_guarded Filters k y e = refl
@@ -335,16 +334,16 @@ still_settled : (c d : Control) → d.state ≡ c.state → (waits c.tx ≡ true
 unfolding settled free_to_change
 still_settled c d e f g = go c.state.request refl
   where
-    held : (m : Mode) → c.state.request ≡ Wanted m → free_to_change d ≡ false
+    held : (m : Mode) → c.state.request ≡ Some m → free_to_change d ≡ false
     held m h =
         ap (λ (x : State). not (sends_in x.mode) || (not (waits d.tx) && is_idle x.flight)) e
-        ∙ holds_back (sends_in c.state.mode) (waits c.tx) (waits d.tx) (is_idle c.state.flight) f (stays (Wanted m) c h g refl)
+        ∙ holds_back (sends_in c.state.mode) (waits c.tx) (waits d.tx) (is_idle c.state.flight) f (stays (Some m) c h g refl)
 
-    go : (q : Request) → c.state.request ≡ q → settled_by d.state.request d ≡ d
-    go Nothing h = ap (λ (x : State). settled_by x.request d) e ∙ ap (λ (q : Request). settled_by q d) h
-    go (Wanted m) h =
-        ap (λ (x : State). settled_by x.request d) e ∙ ap (λ (q : Request). settled_by q d) h
-        ∙ ap (λ (b : Bool). cond b (entered (with_request d Nothing) m) d) (held m h)
+    go : (q : Option Mode) → c.state.request ≡ q → settled_by d.state.request d ≡ d
+    go None h = ap (λ (x : State). settled_by x.request d) e ∙ ap (λ (q : Option Mode). settled_by q d) h
+    go (Some m) h =
+        ap (λ (x : State). settled_by x.request d) e ∙ ap (λ (q : Option Mode). settled_by q d) h
+        ∙ ap (λ (b : Bool). cond b (entered (with_request d None) m) d) (held m h)
 
 -- RTS clears no TXREQ
 request_stays : (c : Control) (old : ℕ) → has_bit old txreq_bit ≡ true → has_bit (requested_of c old) txreq_bit ≡ true

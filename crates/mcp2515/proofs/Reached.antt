@@ -1,4 +1,5 @@
 -- What holds of every chip that a run from power-on reaches, and of filters and masks at every step. Assumes nothing.
+use Rattle.std.proofs.Common.{Option, Some, None}
 use mathlib.Core.Bool.{Bool, true, false, cond, not, ◌&&◌, ◌||◌}
 use mathlib.Core.Path.{◌≡◌, ◌∙◌, refl, sym, ap}
 use mathlib.Core.List.{List, [], ◌∷◌}
@@ -11,15 +12,11 @@ use borrow.Author.Tests.{not-false}
 use Rattle.bits.specs.Bit.{has_bit}
 use Rattle.bits.proofs.All.{every}
 use Rattle.records.specs.declared.Kind.{Kind}
-use Rattle.records.specs.declared.Kind.TheVariants.{SelectLow, Exchange, SelectHigh, FrameHeard, BusIdle, FrameEnds, ReceiveError, Recovery, PinLevel, Unknown}
+use Rattle.records.specs.declared.Kind.TheVariants.{SelectLow, Exchange, SelectHigh, FrameHeard, BusIdle, FrameEnds, ReceiveError, Recovery, PinLevel}
 use Rattle.records.specs.declared.Frame.{Frame}
 use Rattle.records.specs.Records.{accepted, byte_at, kind_of, is_event, frame_of}
 use Rattle.registers.specs.declared.Mode.{Mode}
 use Rattle.registers.specs.declared.Mode.TheVariants.{Normal, Sleep, Loopback, ListenOnly, Configuration}
-use Rattle.registers.specs.declared.Flight.{Flight}
-use Rattle.registers.specs.declared.Flight.TheVariants.{Idle, Of}
-use Rattle.registers.specs.declared.Request.{Request}
-use Rattle.registers.specs.declared.Request.TheVariants.{Nothing, Wanted}
 use Rattle.registers.specs.declared.TxBuffer.{TxBuffer}
 use Rattle.registers.specs.declared.Region.{Region}
 use Rattle.registers.specs.declared.Region.TheVariants.{Filters, Masks, Configured, Bfpctrl, Txrtsctrl, Tec, Rec, Caninte, Canintf, Eflg, Canstat, Canctrl, TxCtrl, TxMessage, RxCtrl, RxMessage}
@@ -33,12 +30,11 @@ use Rattle.registers.proofs.Kept.{reset_holds}
 use Rattle.registers.specs.Modes.{sends_in, waits, entered, free_to_change, settled_by, settled}
 use Rattle.stores.specs.Store.{stored_in, stored, modified, aborted, canctrl_held, canctrl_stored, requested_to_send}
 use Rattle.receiving.specs.declared.Verdict.{Verdict}
-use Rattle.receiving.specs.declared.Verdict.TheVariants.{Unmatched, Stored0, Stored1, RolledOver, Lost0, Lost1}
+use Rattle.receiving.specs.declared.Verdict.TheVariants.{Unmatched, Stored, RolledOver, Lost}
 use Rattle.receiving.specs.declared.Reception.TheVariants.{Woke}
 use Rattle.receiving.specs.Receiving.{Received, verdict_of, match_of, control_after, received_of}
 use Rattle.controller.specs.declared.End.{End}
 use Rattle.controller.specs.declared.End.TheVariants.{Sent, LostArbitration, Failed}
-use Rattle.controller.specs.declared.Choice.TheVariants.{Send, Nobody}
 use Rattle.controller.specs.Sending.{may_send, best_of, choice_of, started, end_of, counted, sent_by, lost_by, failed_by, ended_by, frame_sent}
 use Rattle.controller.specs.Events.{Told, settled_core, ignored, good_frame, woken_control, heard_in, heard_of, ends_in, ends_by, ended, idled, error_adds, erred, error_heard, pin_of, is_high_level, falls_enabled, pinned, happens_by, event_refusal, told_of, refused_by, event_of}
 use Rattle.spi.specs.declared.Act.{Act}
@@ -73,14 +69,14 @@ good_reached rs = run Good good_event good_acted power_on rs good_power
 pub settled_reached : SettledReached
 settled_reached rs = ap (λ (k : Core). k.control) (good_reached rs)
 
-pub stays : (q : Request) (c : Control) → c.state.request ≡ q → settled c ≡ c → is_pending q ≡ true → free_to_change c ≡ false
+pub stays : (q : Option Mode) (c : Control) → c.state.request ≡ q → settled c ≡ c → is_pending q ≡ true → free_to_change c ≡ false
 unfolding settled entered
-stays Nothing c e g p = clash (sym p)
-stays (Wanted m) c e g p = go (free_to_change c) refl
+stays None c e g p = clash (sym p)
+stays (Some m) c e g p = go (free_to_change c) refl
   where
     go : (b : Bool) → free_to_change c ≡ b → free_to_change c ≡ false
     go true f =
-        let done : settled c ≡ entered (with_request c Nothing) m = ap (λ (q : Request). settled_by q c) e ∙ ap (λ (b : Bool). cond b (entered (with_request c Nothing) m) c) f in
+        let done : settled c ≡ entered (with_request c None) m = ap (λ (q : Option Mode). settled_by q c) e ∙ ap (λ (b : Bool). cond b (entered (with_request c None) m) c) f in
         clash (sym (ap (λ (d : Control). is_pending d.state.request) (sym done ∙ g) ∙ ap is_pending e))
     go false f = f
 
@@ -111,13 +107,13 @@ settled_sound : (c : Control) → Sound c → Sound (settled c)
 unfolding settled entered free_to_change
 settled_sound c s = go c.state.request
   where
-    held : (m : Mode) (b : Bool) → free_to_change c ≡ b → Sound (cond b (entered (with_request c Nothing) m) c)
+    held : (m : Mode) (b : Bool) → free_to_change c ≡ b → Sound (cond b (entered (with_request c None) m) c)
     held m true f = λ h. clash (sym f ∙ rw (left (sends_in c.state.mode) _ (s h), h, and_false) refl)
     held m false f = s
 
-    go : (q : Request) → Sound (settled_by q c)
-    go Nothing = s
-    go (Wanted m) = held m (free_to_change c) refl
+    go : (q : Option Mode) → Sound (settled_by q c)
+    go None = s
+    go (Some m) = held m (free_to_change c) refl
 
 canctrl_sound : (c : Control) (v : ℕ) → Sound c → Sound (canctrl_stored c v)
 unfolding canctrl_stored aborted
@@ -157,19 +153,15 @@ acted_sound (Refuse n) k s = s
 -- receiving moves neither mode, flight nor TEC
 after_state : (v : Verdict) (c : Control) (remote : Bool) → (control_after v c remote).state ≡ c.state
 after_state Unmatched c remote = refl
-after_state (Stored0 h) c remote = refl
-after_state (Stored1 h) c remote = refl
+after_state (Stored b h) c remote = refl
 after_state (RolledOver h) c remote = refl
-after_state Lost0 c remote = refl
-after_state Lost1 c remote = refl
+after_state (Lost b) c remote = refl
 
 after_counters : (v : Verdict) (c : Control) (remote : Bool) → (control_after v c remote).counters ≡ c.counters
 after_counters Unmatched c remote = refl
-after_counters (Stored0 h) c remote = refl
-after_counters (Stored1 h) c remote = refl
+after_counters (Stored b h) c remote = refl
 after_counters (RolledOver h) c remote = refl
-after_counters Lost0 c remote = refl
-after_counters Lost1 c remote = refl
+after_counters (Lost b) c remote = refl
 
 received_state : (k : Core) (f : Frame) → (received_of k f).core.control.state ≡ k.control.state
 unfolding received_of match_of
@@ -213,35 +205,35 @@ ends_sound true k b LostArbitration = idle_sound (ended_by LostArbitration k.con
 ends_sound true k b Failed = idle_sound (ended_by Failed k.control b) (ended_idle Failed k.control b)
 ends_sound false k b e = idle_sound (ended_by e k.control b) (ended_idle e k.control b)
 
-flight_sound : (l : Flight) (k : Core) (e : End) → Sound k.control → Sound (ends_by l k e).core.control
-flight_sound Idle k e s = s
-flight_sound (Of b) k e s = ends_sound (is_loopback k.control.state.mode) k b e
+flight_sound : (l : Option TxBuffer) (k : Core) (e : End) → Sound k.control → Sound (ends_by l k e).core.control
+flight_sound None k e s = s
+flight_sound (Some b) k e s = ends_sound (is_loopback k.control.state.mode) k b e
 
 started_sound : (c : Control) → Sound c → Sound (started (choice_of c) c)
 unfolding choice_of
 started_sound c s = go (may_send c && waits c.tx) refl
   where
-    go : (b : Bool) → may_send c && waits c.tx ≡ b → Sound (started (cond b (Send (best_of c.tx)) Nobody) c)
+    go : (b : Bool) → may_send c && waits c.tx ≡ b → Sound (started (cond b (Some (best_of c.tx)) None) c)
     go true e = λ h. left (may_send c) (waits c.tx) e
     go false e = s
 
-happens_sound : (q : Kind) (k : Core) (r : List ℕ) → Sound k.control → Sound (happens_by q k r).core.control
+happens_sound : (q : Option Kind) (k : Core) (r : List ℕ) → Sound k.control → Sound (happens_by q k r).core.control
 unfolding heard_of idled ended error_heard moved_to pinned requested_to_send
-happens_sound SelectLow k r s = s
-happens_sound Exchange k r s = s
-happens_sound SelectHigh k r s = s
-happens_sound FrameHeard k r s = heard_sound k.control.state.mode k (frame_of r) refl s
-happens_sound BusIdle k r s = started_sound k.control s
-happens_sound FrameEnds k r s = flight_sound k.control.state.flight k (end_of (byte_at r 1)) s
-happens_sound ReceiveError k r s =
+happens_sound (Some SelectLow) k r s = s
+happens_sound (Some Exchange) k r s = s
+happens_sound (Some SelectHigh) k r s = s
+happens_sound (Some FrameHeard) k r s = heard_sound k.control.state.mode k (frame_of r) refl s
+happens_sound (Some BusIdle) k r s = started_sound k.control s
+happens_sound (Some FrameEnds) k r s = flight_sound k.control.state.flight k (end_of (byte_at r 1)) s
+happens_sound (Some ReceiveError) k r s =
     either Sound (is_normal k.control.state.mode && not (is_bus_off k.control.counters))
     {x = erred k.control (error_adds (byte_at r 1))} {y = k.control} s s
-happens_sound Recovery k r s = λ h. rw (left (sends_in k.control.state.mode) _ (s h))
-happens_sound PinLevel k r s =
+happens_sound (Some Recovery) k r s = λ h. rw (left (sends_in k.control.state.mode) _ (s h))
+happens_sound (Some PinLevel) k r s =
     let b : TxBuffer = pin_of (byte_at r 1) in
     either (λ (j : Core). Sound j.control) (falls_enabled k b (is_high_level (byte_at r 2)))
     {x = with_control k (requested_to_send k.control (rts_bit b))} {y = k} s s
-happens_sound Unknown k r s = s
+happens_sound None k r s = s
 
 event_sound : (k : Core) (r : List ℕ) → Sound k.control → Sound (event_of k r).core.control
 unfolding event_of
@@ -406,24 +398,24 @@ ends_pins true k b LostArbitration = refl
 ends_pins true k b Failed = refl
 ends_pins false k b e = refl
 
-flight_pins : (l : Flight) (k : Core) (e : End) → (ends_by l k e).core.pins ≡ k.pins
-flight_pins Idle k e = refl
-flight_pins (Of b) k e = ends_pins (is_loopback k.control.state.mode) k b e
+flight_pins : (l : Option TxBuffer) (k : Core) (e : End) → (ends_by l k e).core.pins ≡ k.pins
+flight_pins None k e = refl
+flight_pins (Some b) k e = ends_pins (is_loopback k.control.state.mode) k b e
 
-happens_pins : (q : Kind) (k : Core) (r : List ℕ) → (q ≡ PinLevel → ⊥) → (happens_by q k r).core.pins ≡ k.pins
+happens_pins : (q : Option Kind) (k : Core) (r : List ℕ) → (q ≡ Some PinLevel → ⊥) → (happens_by q k r).core.pins ≡ k.pins
 unfolding heard_of idled ended
-happens_pins SelectLow k r n = refl
-happens_pins Exchange k r n = refl
-happens_pins SelectHigh k r n = refl
-happens_pins FrameHeard k r n = heard_pins k.control.state.mode k (frame_of r)
-happens_pins BusIdle k r n = refl
-happens_pins FrameEnds k r n = flight_pins k.control.state.flight k (end_of (byte_at r 1))
-happens_pins ReceiveError k r n = refl
-happens_pins Recovery k r n = refl
-happens_pins PinLevel k r n = absurd (n refl)
-happens_pins Unknown k r n = refl
+happens_pins (Some SelectLow) k r n = refl
+happens_pins (Some Exchange) k r n = refl
+happens_pins (Some SelectHigh) k r n = refl
+happens_pins (Some FrameHeard) k r n = heard_pins k.control.state.mode k (frame_of r)
+happens_pins (Some BusIdle) k r n = refl
+happens_pins (Some FrameEnds) k r n = flight_pins k.control.state.flight k (end_of (byte_at r 1))
+happens_pins (Some ReceiveError) k r n = refl
+happens_pins (Some Recovery) k r n = refl
+happens_pins (Some PinLevel) k r n = absurd (n refl)
+happens_pins None k r n = refl
 
-event_pins : (k : Core) (r : List ℕ) → (kind_of r ≡ PinLevel → ⊥) → (event_of k r).core.pins ≡ k.pins
+event_pins : (k : Core) (r : List ℕ) → (kind_of r ≡ Some PinLevel → ⊥) → (event_of k r).core.pins ≡ k.pins
 unfolding event_of
 event_pins k r n =
     either (λ (t : Told). t.core.pins ≡ k.pins) (eqb (event_refusal k.control r) accepted)

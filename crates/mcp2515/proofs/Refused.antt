@@ -1,11 +1,12 @@
 -- A refused record answers 0 with an empty set and leaves the chip as it was. Assumes nothing.
+use Rattle.std.proofs.Common.{Option, Some, None}
 use mathlib.Core.Bool.{Bool, true, false, cond}
 use mathlib.Core.List.{List}
 use mathlib.Core.Path.{◌≡◌, refl}
 use Prim.Native.Nat.{ℕ}
 use lib.Dec.{eqb}
 use Rattle.records.specs.declared.Kind.{Kind}
-use Rattle.records.specs.declared.Kind.TheVariants.{SelectLow, Exchange, SelectHigh, FrameHeard, BusIdle, FrameEnds, ReceiveError, Recovery, PinLevel, Unknown}
+use Rattle.records.specs.declared.Kind.TheVariants.{SelectLow, Exchange, SelectHigh, FrameHeard, BusIdle, FrameEnds, ReceiveError, Recovery, PinLevel}
 use Rattle.records.specs.Records.{refused_speaker, byte_at, kind_of, is_event, sound_of}
 use Rattle.registers.specs.declared.Core.{Core}
 use Rattle.controller.specs.Events.{event_refusal, event_of}
@@ -31,20 +32,20 @@ unmoved_same : (g : Bool) (a : Act) (x s : Select) (k : Core) → refusal_of a �
 unmoved_same true a x s k e h = absurd (h e)
 unmoved_same false a x s k e h = record { answers_0 = refl; core_kept = refl; select_kept = refl }
 
-unmoved_by : (g : Kind) (s : Select) (p : Speaker) (b : ℕ) (k : Core) → (refusal_of (asked_by g s p b) ≡ 0 → ⊥) → Unmoved (asked_by g s p b) s (turned_by g s p b) k
-unmoved_by SelectLow Raised p b k h = absurd (h refl)
-unmoved_by SelectLow (Lowered q i) p b k h = record { answers_0 = refl; core_kept = refl; select_kept = refl }
-unmoved_by Exchange Raised p b k h = record { answers_0 = refl; core_kept = refl; select_kept = refl }
-unmoved_by Exchange (Lowered q i) p b k h = unmoved_same (same_speaker q p) (act_by q i b) (Lowered q (next_by q i b)) (Lowered q i) k (act_accepted q i b) h
-unmoved_by SelectHigh Raised p b k h = record { answers_0 = refl; core_kept = refl; select_kept = refl }
-unmoved_by SelectHigh (Lowered q i) p b k h = unmoved_same (same_speaker q p) (high_act q i) Raised (Lowered q i) k (high_told q i k).0 h
-unmoved_by FrameHeard s p b k h = record { answers_0 = refl; core_kept = refl; select_kept = refl }
-unmoved_by BusIdle s p b k h = record { answers_0 = refl; core_kept = refl; select_kept = refl }
-unmoved_by FrameEnds s p b k h = record { answers_0 = refl; core_kept = refl; select_kept = refl }
-unmoved_by ReceiveError s p b k h = record { answers_0 = refl; core_kept = refl; select_kept = refl }
-unmoved_by Recovery s p b k h = record { answers_0 = refl; core_kept = refl; select_kept = refl }
-unmoved_by PinLevel s p b k h = record { answers_0 = refl; core_kept = refl; select_kept = refl }
-unmoved_by Unknown s p b k h = record { answers_0 = refl; core_kept = refl; select_kept = refl }
+unmoved_by : (g : Option Kind) (s : Select) (p : Speaker) (b : ℕ) (k : Core) → (refusal_of (asked_by g s p b) ≡ 0 → ⊥) → Unmoved (asked_by g s p b) s (turned_by g s p b) k
+unmoved_by (Some SelectLow) Raised p b k h = absurd (h refl)
+unmoved_by (Some SelectLow) (Lowered q i) p b k h = record { answers_0 = refl; core_kept = refl; select_kept = refl }
+unmoved_by (Some Exchange) Raised p b k h = record { answers_0 = refl; core_kept = refl; select_kept = refl }
+unmoved_by (Some Exchange) (Lowered q i) p b k h = unmoved_same (same_speaker q p) (act_by q i b) (Lowered q (next_by q i b)) (Lowered q i) k (act_accepted q i b) h
+unmoved_by (Some SelectHigh) Raised p b k h = record { answers_0 = refl; core_kept = refl; select_kept = refl }
+unmoved_by (Some SelectHigh) (Lowered q i) p b k h = unmoved_same (same_speaker q p) (high_act q i) Raised (Lowered q i) k (high_told q i k).0 h
+unmoved_by (Some FrameHeard) s p b k h = record { answers_0 = refl; core_kept = refl; select_kept = refl }
+unmoved_by (Some BusIdle) s p b k h = record { answers_0 = refl; core_kept = refl; select_kept = refl }
+unmoved_by (Some FrameEnds) s p b k h = record { answers_0 = refl; core_kept = refl; select_kept = refl }
+unmoved_by (Some ReceiveError) s p b k h = record { answers_0 = refl; core_kept = refl; select_kept = refl }
+unmoved_by (Some Recovery) s p b k h = record { answers_0 = refl; core_kept = refl; select_kept = refl }
+unmoved_by (Some PinLevel) s p b k h = record { answers_0 = refl; core_kept = refl; select_kept = refl }
+unmoved_by None s p b k h = record { answers_0 = refl; core_kept = refl; select_kept = refl }
 
 unmoved : (s : Select) (r : List ℕ) (k : Core) → (refusal_of (asked s r) ≡ 0 → ⊥) → Unmoved (asked s r) s (turned s r) k
 unfolding asked turned

@@ -1,4 +1,5 @@
 -- The laws of the SPI side from the facts of the core, and with them demand 3. Assumes nothing.
+use Rattle.std.proofs.Common.{Option, Some, None}
 use mathlib.Core.Bool.{Bool, true, false, cond, not, ◌&&◌}
 use mathlib.Core.List.{List, [], ◌∷◌}
 use mathlib.Core.Path.{◌≡◌, refl, sym, ap, subst, ◌∙◌}
@@ -7,7 +8,7 @@ use native.Mathlib.Omega.{arith}
 use lib.Dec.{eqb}
 use borrow.Author.Tests.{not-true, lt-ltb}
 use Rattle.records.specs.declared.Kind.{Kind}
-use Rattle.records.specs.declared.Kind.TheVariants.{SelectLow, Exchange, SelectHigh, FrameHeard, BusIdle, FrameEnds, ReceiveError, Recovery, PinLevel, Unknown}
+use Rattle.records.specs.declared.Kind.TheVariants.{SelectLow, Exchange, SelectHigh, FrameHeard, BusIdle, FrameEnds, ReceiveError, Recovery, PinLevel}
 use Rattle.records.specs.Records.{refused_speaker, byte_at, kind_of, is_event, sound_of}
 use Rattle.registers.specs.declared.RxBuffer.{RxBuffer}
 use Rattle.registers.specs.declared.RxBuffer.TheVariants.{Rxb0, Rxb1}
@@ -56,39 +57,39 @@ is_session exchange = true
 is_session high = true
 is_session other = false
 
-abbrev kind_for : Role → Kind
-kind_for event = Unknown
-kind_for low = SelectLow
-kind_for exchange = Exchange
-kind_for high = SelectHigh
-kind_for other = Unknown
+abbrev kind_for : Role → Option Kind
+kind_for event = None
+kind_for low = Some SelectLow
+kind_for exchange = Some Exchange
+kind_for high = Some SelectHigh
+kind_for other = None
 
-abbrev role_by : Kind → Bool → Role
+abbrev role_by : Option Kind → Bool → Role
 role_by κ b = cond (is_event κ) event (cond b (accepted_role κ) other)
 
-record Kinds (κ : Kind) (b : Bool) (ρ : Role) : Type 0 where
+record Kinds (κ : Option Kind) (b : Bool) (ρ : Role) : Type 0 where
   of_kind : κ ≡ kind_for ρ
   allowed_in : b ≡ true
   no_event : is_event κ ≡ false
 
-kinds : (κ : Kind) (b : Bool) → is_session (role_by κ b) ≡ true → Kinds κ b (role_by κ b)
-kinds SelectLow true e = record { of_kind = refl; allowed_in = refl; no_event = refl }
-kinds SelectLow false e = clash (sym e)
-kinds Exchange true e = record { of_kind = refl; allowed_in = refl; no_event = refl }
-kinds Exchange false e = clash (sym e)
-kinds SelectHigh true e = record { of_kind = refl; allowed_in = refl; no_event = refl }
-kinds SelectHigh false e = clash (sym e)
-kinds FrameHeard b e = clash (sym e)
-kinds BusIdle b e = clash (sym e)
-kinds FrameEnds b e = clash (sym e)
-kinds ReceiveError b e = clash (sym e)
-kinds Recovery b e = clash (sym e)
-kinds PinLevel b e = clash (sym e)
-kinds Unknown true e = clash (sym e)
-kinds Unknown false e = clash (sym e)
+kinds : (κ : Option Kind) (b : Bool) → is_session (role_by κ b) ≡ true → Kinds κ b (role_by κ b)
+kinds (Some SelectLow) true e = record { of_kind = refl; allowed_in = refl; no_event = refl }
+kinds (Some SelectLow) false e = clash (sym e)
+kinds (Some Exchange) true e = record { of_kind = refl; allowed_in = refl; no_event = refl }
+kinds (Some Exchange) false e = clash (sym e)
+kinds (Some SelectHigh) true e = record { of_kind = refl; allowed_in = refl; no_event = refl }
+kinds (Some SelectHigh) false e = clash (sym e)
+kinds (Some FrameHeard) b e = clash (sym e)
+kinds (Some BusIdle) b e = clash (sym e)
+kinds (Some FrameEnds) b e = clash (sym e)
+kinds (Some ReceiveError) b e = clash (sym e)
+kinds (Some Recovery) b e = clash (sym e)
+kinds (Some PinLevel) b e = clash (sym e)
+kinds None true e = clash (sym e)
+kinds None false e = clash (sym e)
 
 -- An accepted record of the SPI side.
-pub record Accepted (c : Chip) (r : List ℕ) (κ : Kind) : Type 0 where
+pub record Accepted (c : Chip) (r : List ℕ) (κ : Option Kind) : Type 0 where
   pub kind : kind_of r ≡ κ
   pub sound : sound_of r ≡ true
   pub plain : is_event (kind_of r) ≡ false
@@ -354,11 +355,11 @@ quiets_back c r e v q =
     record { spi = q.spi; still = subst (λ (d : Chip). is_still (asked d.select r) ≡ true) (event_next c e v) q.still }
 
 -- What an accepted record asks, and the chip after it, where the select is s.
-accepted_asks : (c : Chip) (r : List ℕ) (κ : Kind) (s : Select) → Accepted c r κ → c.select ≡ s → asked c.select r ≡ asked_by κ s (speaker_in r) (byte_at r 1)
+accepted_asks : (c : Chip) (r : List ℕ) (κ : Option Kind) (s : Select) → Accepted c r κ → c.select ≡ s → asked c.select r ≡ asked_by κ s (speaker_in r) (byte_at r 1)
 unfolding asked
 accepted_asks c r κ s a e = rw (a.sound, a.kind, e)
 
-accepted_turns : (c : Chip) (r : List ℕ) (κ : Kind) (s : Select) → Accepted c r κ → c.select ≡ s → turned c.select r ≡ turned_by κ s (speaker_in r) (byte_at r 1)
+accepted_turns : (c : Chip) (r : List ℕ) (κ : Option Kind) (s : Select) → Accepted c r κ → c.select ≡ s → turned c.select r ≡ turned_by κ s (speaker_in r) (byte_at r 1)
 unfolding turned
 accepted_turns c r κ s a e = rw (a.sound, a.kind, e)
 
@@ -368,35 +369,35 @@ same_of true a h = refl
 same_of false a h = h
 
 -- an exchange and the instruction after it
-exchange_same : (c : Chip) (r : List ℕ) (p : Speaker) (i : Instruction) → Accepted c r Exchange → c.select ≡ Lowered p i → same_speaker p (speaker_in r) ≡ true
+exchange_same : (c : Chip) (r : List ℕ) (p : Speaker) (i : Instruction) → Accepted c r (Some Exchange) → c.select ≡ Lowered p i → same_speaker p (speaker_in r) ≡ true
 exchange_same c r p i a e = same_of (same_speaker p (speaker_in r)) (act_by p i (byte_at r 1)) (rw e at a.taken)
 
-taken_asks : (c : Chip) (r : List ℕ) (p : Speaker) (i : Instruction) → Accepted c r Exchange → c.select ≡ Lowered p i → asked c.select r ≡ act_by p i (byte_at r 1)
-taken_asks c r p i a e = accepted_asks c r Exchange (Lowered p i) a e ∙ rw (exchange_same c r p i a e)
+taken_asks : (c : Chip) (r : List ℕ) (p : Speaker) (i : Instruction) → Accepted c r (Some Exchange) → c.select ≡ Lowered p i → asked c.select r ≡ act_by p i (byte_at r 1)
+taken_asks c r p i a e = accepted_asks c r (Some Exchange) (Lowered p i) a e ∙ rw (exchange_same c r p i a e)
 
-taken_turns : (c : Chip) (r : List ℕ) (p : Speaker) (i : Instruction) → Accepted c r Exchange → c.select ≡ Lowered p i
+taken_turns : (c : Chip) (r : List ℕ) (p : Speaker) (i : Instruction) → Accepted c r (Some Exchange) → c.select ≡ Lowered p i
     → turned c.select r ≡ Lowered p (next_by p i (byte_at r 1))
-taken_turns c r p i a e = accepted_turns c r Exchange (Lowered p i) a e ∙ rw (exchange_same c r p i a e)
+taken_turns c r p i a e = accepted_turns c r (Some Exchange) (Lowered p i) a e ∙ rw (exchange_same c r p i a e)
 
-pub taken_next : (c : Chip) (r : List ℕ) (p : Speaker) (i : Instruction) → Accepted c r Exchange → c.select ≡ Lowered p i
+pub taken_next : (c : Chip) (r : List ℕ) (p : Speaker) (i : Instruction) → Accepted c r (Some Exchange) → c.select ≡ Lowered p i
     → next_chip c r ≡ chip (acted (act_by p i (byte_at r 1)) c.core) p (next_by p i (byte_at r 1))
 taken_next c r p i a e = spi_next c r a.plain ∙ rw (taken_asks c r p i a e, taken_turns c r p i a e)
 
 -- .. where it goes on
-exchange_asks : (c : Chip) (r : List ℕ) (p : Speaker) (i : Instruction) → Accepted c r Exchange → c.select ≡ Lowered p i → goes_on p i ≡ true
+exchange_asks : (c : Chip) (r : List ℕ) (p : Speaker) (i : Instruction) → Accepted c r (Some Exchange) → c.select ≡ Lowered p i → goes_on p i ≡ true
     → asked c.select r ≡ exchange_act (command_by p (byte_at r 1)) i (byte_at r 1)
 exchange_asks c r p i a e g = taken_asks c r p i a e ∙ rw g
 
-exchange_next_lem : (c : Chip) (r : List ℕ) (p : Speaker) (i : Instruction) → Accepted c r Exchange → c.select ≡ Lowered p i → goes_on p i ≡ true
+exchange_next_lem : (c : Chip) (r : List ℕ) (p : Speaker) (i : Instruction) → Accepted c r (Some Exchange) → c.select ≡ Lowered p i → goes_on p i ≡ true
     → next_chip c r ≡ chip (acted (exchange_act (command_by p (byte_at r 1)) i (byte_at r 1)) c.core) p (exchange_next (command_by p (byte_at r 1)) i (byte_at r 1))
 exchange_next_lem c r p i a e g = taken_next c r p i a e ∙ rw g
 
-high_asks : (c : Chip) (r : List ℕ) (p : Speaker) (i : Instruction) → Accepted c r SelectHigh → c.select ≡ Lowered p i → asked c.select r ≡ high_act p i
+high_asks : (c : Chip) (r : List ℕ) (p : Speaker) (i : Instruction) → Accepted c r (Some SelectHigh) → c.select ≡ Lowered p i → asked c.select r ≡ high_act p i
 high_asks c r p i a e =
-    accepted_asks c r SelectHigh (Lowered p i) a e ∙ rw (same_of (same_speaker p (speaker_in r)) (high_act p i) (rw e at a.taken))
+    accepted_asks c r (Some SelectHigh) (Lowered p i) a e ∙ rw (same_of (same_speaker p (speaker_in r)) (high_act p i) (rw e at a.taken))
 
-pub low_next : (c : Chip) (r : List ℕ) → Accepted c r SelectLow → c.select ≡ Raised → next_chip c r ≡ chip (acted Rest c.core) (speaker_in r) First
-low_next c r a e = spi_next c r a.plain ∙ rw (accepted_asks c r SelectLow Raised a e, accepted_turns c r SelectLow Raised a e)
+pub low_next : (c : Chip) (r : List ℕ) → Accepted c r (Some SelectLow) → c.select ≡ Raised → next_chip c r ≡ chip (acted Rest c.core) (speaker_in r) First
+low_next c r a e = spi_next c r a.plain ∙ rw (accepted_asks c r (Some SelectLow) Raised a e, accepted_turns c r (Some SelectLow) Raised a e)
 
 -- In a session, a record that is neither an event, an accepted exchange nor the accepted select high is refused.
 pub other_step : (k : Core) (p : Speaker) (i : Instruction) (r : List ℕ) → is_other (role_at (chip k p i) r) ≡ true
@@ -413,29 +414,29 @@ other_step k p i r h = go (kind_of r) refl (sound_of r) refl
     taken : is_event (kind_of r) ≡ false → refusal_of (asked (Lowered p i) r) ≡ 0 → is_other (accepted_role (kind_of r)) ≡ true
     taken e z = rw (e, ap (λ (o : Outcome). o.refusal) (spi_out (chip k p i) r e) ∙ z) at h
 
-    exchanged : kind_of r ≡ Exchange → sound_of r ≡ true → (g : Bool) → same_speaker p (speaker_in r) ≡ g → Goal
+    exchanged : kind_of r ≡ Some Exchange → sound_of r ≡ true → (g : Bool) → same_speaker p (speaker_in r) ≡ g → Goal
     exchanged e s true g = clash (sym (rw e at (taken (rw e) (rw (s, e, g) (act_accepted p i (byte_at r 1))))))
     exchanged e s false g = refused (rw e) refused_speaker (rw (s, e, g)) (rw (s, e, g))
 
-    raised : kind_of r ≡ SelectHigh → sound_of r ≡ true → (g : Bool) → same_speaker p (speaker_in r) ≡ g → Goal
+    raised : kind_of r ≡ Some SelectHigh → sound_of r ≡ true → (g : Bool) → same_speaker p (speaker_in r) ≡ g → Goal
     raised e s true g = clash (sym (rw e at (taken (rw e) (rw (s, e, g) (high_told p i k).0))))
     raised e s false g = refused (rw e) refused_speaker (rw (s, e, g)) (rw (s, e, g))
 
-    go : (κ : Kind) → kind_of r ≡ κ → (b : Bool) → sound_of r ≡ b → Goal
-    go SelectLow e true s = refused (rw e) 1 (rw (s, e)) (rw (s, e))
-    go SelectLow e false s = refused (rw e) 2 (rw s) (rw s)
-    go Exchange e true s = exchanged e s (same_speaker p (speaker_in r)) refl
-    go Exchange e false s = refused (rw e) 2 (rw s) (rw s)
-    go SelectHigh e true s = raised e s (same_speaker p (speaker_in r)) refl
-    go SelectHigh e false s = refused (rw e) 2 (rw s) (rw s)
-    go FrameHeard e b s = clash (sym (rw e at h))
-    go BusIdle e b s = clash (sym (rw e at h))
-    go FrameEnds e b s = clash (sym (rw e at h))
-    go ReceiveError e b s = clash (sym (rw e at h))
-    go Recovery e b s = clash (sym (rw e at h))
-    go PinLevel e b s = clash (sym (rw e at h))
-    go Unknown e true s = refused (rw e) 2 (rw (s, e)) (rw (s, e))
-    go Unknown e false s = refused (rw e) 2 (rw s) (rw s)
+    go : (κ : Option Kind) → kind_of r ≡ κ → (b : Bool) → sound_of r ≡ b → Goal
+    go (Some SelectLow) e true s = refused (rw e) 1 (rw (s, e)) (rw (s, e))
+    go (Some SelectLow) e false s = refused (rw e) 2 (rw s) (rw s)
+    go (Some Exchange) e true s = exchanged e s (same_speaker p (speaker_in r)) refl
+    go (Some Exchange) e false s = refused (rw e) 2 (rw s) (rw s)
+    go (Some SelectHigh) e true s = raised e s (same_speaker p (speaker_in r)) refl
+    go (Some SelectHigh) e false s = refused (rw e) 2 (rw s) (rw s)
+    go (Some FrameHeard) e b s = clash (sym (rw e at h))
+    go (Some BusIdle) e b s = clash (sym (rw e at h))
+    go (Some FrameEnds) e b s = clash (sym (rw e at h))
+    go (Some ReceiveError) e b s = clash (sym (rw e at h))
+    go (Some Recovery) e b s = clash (sym (rw e at h))
+    go (Some PinLevel) e b s = clash (sym (rw e at h))
+    go None e true s = refused (rw e) 2 (rw (s, e)) (rw (s, e))
+    go None e false s = refused (rw e) 2 (rw s) (rw s)
 
 module _ (F : CoreFacts) where
   open F use {good_power, good_acted, good_event, full_event, free_event, fetch_event, store_free, store_refusal, store_answer, store_set, store_asks, store_event}
@@ -675,11 +676,11 @@ module _ (F : CoreFacts) where
       → Within (entry c r) s fresh (next_chip c r) s × ((es : List Entry) → Calms c r es)
   within_low c s r g e = go c.select refl (accepted_as c r low refl e)
     where
-      go : (x : Select) → c.select ≡ x → Accepted c r SelectLow → Within (entry c r) s fresh (next_chip c r) s × ((es : List Entry) → Calms c r es)
+      go : (x : Select) → c.select ≡ x → Accepted c r (Some SelectLow) → Within (entry c r) s fresh (next_chip c r) s × ((es : List Entry) → Calms c r es)
       go Raised es a =
           let w : Within (entry c r) s fresh (chip (acted Rest c.core) (speaker_in r) First) s = (refl, λ m h. ap (λ (k : Core). allowed k s m) g ∙ h) in (
             subst (λ (d : Chip). Within (entry c r) s fresh d s) (sym (low_next c r a es)) w,
-            λ _. record { spi = a.plain; calm = rw (accepted_asks c r SelectLow Raised a es) tt },
+            λ _. record { spi = a.plain; calm = rw (accepted_asks c r (Some SelectLow) Raised a es) tt },
           )
       go (Lowered q i) es a = clash (sym (rw es at a.taken))
 
@@ -719,7 +720,7 @@ module _ (F : CoreFacts) where
     within_first l₀ s₀ c s r g e h w =
         let p : Speaker = speaker_in l₀.rec in
         let m : Command = named l₀ r in
-        let a : Accepted c r Exchange = accepted_as c r exchange refl e in
+        let a : Accepted c r (Some Exchange) = accepted_as c r exchange refl e in
         let v : Within l₀ s₀ (sofar m 0) (chip (acted (first_act m) c.core) p (opened m)) s =
         (opened m, refl, come_first m, allowed_first m c.core s g (allowed_tail m c.core (entry c r) s (w.1 m h)), reach p (byte_at r 1)) in (
           subst (λ (d : Chip). Within l₀ s₀ (sofar m 0) d s) (sym (exchange_next_lem c r p First a w.0 (first_goes p))) v,
@@ -736,7 +737,7 @@ module _ (F : CoreFacts) where
         let i : Instruction = w.0 in
         let x : ℕ = byte_at r 1 in
         let y : Command = command_by p x in
-        let a : Accepted c r Exchange = accepted_as c r exchange refl e in
+        let a : Accepted c r (Some Exchange) = accepted_as c r exchange refl e in
         let on : goes_on p i ≡ true = goes p extra m j i w.4 l w.2 in
         let n : More extra y m j c.core s i x = more p extra y m j c.core s i x g w.4 l w.2 (allowed_tail m c.core (entry c r) s w.3) in
         let v : Within l₀ s₀ (sofar m (suc j)) (chip (acted (exchange_act y i x) c.core) p (exchange_next y i x)) s =
@@ -754,7 +755,7 @@ module _ (F : CoreFacts) where
         → moment_of extra m ≤ j → j < most extra m → Within l₀ s₀ (sofar m j) c s → Quiets c r
     within_high l₀ s₀ c s m j r e h l w =
         let p : Speaker = speaker_in l₀.rec in
-        let a : Accepted c r SelectHigh = accepted_as c r high refl e in
+        let a : Accepted c r (Some SelectHigh) = accepted_as c r high refl e in
         record { spi = a.plain; still = rw (high_asks c r p w.0 a w.1) (high_still p extra m j w.0 h l w.2) }
 
     good_power_on : Good power_on.core

@@ -1,7 +1,7 @@
 -- Demand 3 from the laws of the chip: records move past events one by one until the list is tidied. Assumes nothing.
+use Rattle.std.proofs.Common.{Option, Some, None}
 use mathlib.Core.Bool.{Bool, true, false, cond, ◌&&◌}
 use mathlib.Core.List.{List, [], ◌∷◌, ◌++◌, append_assoc, append-nil}
-use mathlib.Core.Option.{Option, none, some}
 use mathlib.Core.Path.{◌≡◌, refl, sym, ap, ap₂, subst, ◌∙◌}
 use Prim.Native.Nat.{ℕ, zero, suc, ◌+◌, ◌≤◌, ◌<◌}
 use lib.ListN.{length}
@@ -9,7 +9,7 @@ use lib.Seq.{append_snoc}
 use lib.Dec.{eqb, leb, leb→le}
 use native.Mathlib.Omega.{arith}
 use Rattle.records.specs.declared.Kind.{Kind}
-use Rattle.records.specs.declared.Kind.TheVariants.{SelectLow, Exchange, SelectHigh, FrameHeard, BusIdle, FrameEnds, ReceiveError, Recovery, PinLevel, Unknown}
+use Rattle.records.specs.declared.Kind.TheVariants.{SelectLow, Exchange, SelectHigh, FrameHeard, BusIdle, FrameEnds, ReceiveError, Recovery, PinLevel}
 use Rattle.records.specs.Records.{byte_at, kind_of, is_event}
 use Rattle.spi.specs.declared.Speaker.{Speaker}
 use Rattle.spi.specs.declared.Command.{Command}
@@ -114,20 +114,20 @@ high_only exchange e = cc
 high_only low e = cc
 high_only other e = cc
 
-accepted_event : (κ : Kind) → accepted_role κ ≡ event → is_event κ ≡ true
-accepted_event SelectLow e = cc
-accepted_event Exchange e = cc
-accepted_event SelectHigh e = cc
-accepted_event FrameHeard e = refl
-accepted_event BusIdle e = refl
-accepted_event FrameEnds e = refl
-accepted_event ReceiveError e = refl
-accepted_event Recovery e = refl
-accepted_event PinLevel e = refl
-accepted_event Unknown e = cc
+accepted_event : (κ : Option Kind) → accepted_role κ ≡ event → is_event κ ≡ true
+accepted_event (Some SelectLow) e = cc
+accepted_event (Some Exchange) e = cc
+accepted_event (Some SelectHigh) e = cc
+accepted_event (Some FrameHeard) e = refl
+accepted_event (Some BusIdle) e = refl
+accepted_event (Some FrameEnds) e = refl
+accepted_event (Some ReceiveError) e = refl
+accepted_event (Some Recovery) e = refl
+accepted_event (Some PinLevel) e = refl
+accepted_event None e = cc
 
 -- Only an event has the role of one.
-role_of_event : (κ : Kind) (b : Bool) → cond b (accepted_role κ) other ≡ event → is_event κ ≡ true
+role_of_event : (κ : Option Kind) (b : Bool) → cond b (accepted_role κ) other ≡ event → is_event κ ≡ true
 role_of_event κ true e = accepted_event κ e
 role_of_event κ false e = cc
 
@@ -139,7 +139,7 @@ event_of_lem r o e = go (is_event (kind_of r)) refl (λ h. role_of_event (kind_o
     go true h f = h
     go false h f = f h
 
-none-some : (k : ℕ) → none ≡ some k → ⊥
+none-some : (k : ℕ) → None ≡ Some k → ⊥
 none-some k e = let z : ◌≡◌ {A = ℕ} 0 1 = cc in omega arith
 
 true-false : true ≡ false → ⊥
@@ -406,13 +406,13 @@ module _ (extra : ℕ) (L : Laws extra) where
   abbrev listed_in : Entry → List Entry → List ℕ → Option ℕ
   listed_in l s bs = listed_by extra (speaker_in l.rec) l.met s bs
 
-  listed_cons : (p : Speaker) (c : Chip) (s : List Entry) (b : ℕ) (bs : List ℕ) (k : ℕ) → listed_by extra p c s (b ∷ bs) ≡ some k
+  listed_cons : (p : Speaker) (c : Chip) (s : List Entry) (b : ℕ) (bs : List ℕ) (k : ℕ) → listed_by extra p c s (b ∷ bs) ≡ Some k
       → (length (b ∷ bs) ≤ most extra (command_by p b)) × (allowed c.core s (command_by p b) ≡ true) × (moment_of extra (command_by p b) ≡ k)
   unfolding listed_by
   listed_cons p c s b bs k e = go (leb (length (b ∷ bs)) (most extra (command_by p b))) refl (allowed c.core s (command_by p b)) refl e
     where
       go : (x : Bool) → leb (length (b ∷ bs)) (most extra (command_by p b)) ≡ x → (y : Bool) → allowed c.core s (command_by p b) ≡ y
-          → cond (x && y) (some (moment_of extra (command_by p b))) none ≡ some k
+          → cond (x && y) (Some (moment_of extra (command_by p b))) None ≡ Some k
           → (length (b ∷ bs) ≤ most extra (command_by p b)) × (allowed c.core s (command_by p b) ≡ true) × (moment_of extra (command_by p b) ≡ k)
       go true ex true ey e = (leb→le (length (b ∷ bs)) (most extra (command_by p b)) (rw ex tt), ey, (cc))
       go true ex false ey e = absurd (none-some k e)
@@ -420,7 +420,7 @@ module _ (extra : ℕ) (L : Laws extra) where
       go false ex false ey e = absurd (none-some k e)
 
   ready : (l₀ : Entry) (s₀ : List Entry) (c : Chip) (k : ℕ) (qs : List (List ℕ)) (h : List ℕ) → Good c → NoHigh c qs
-      → role_at (chip_after c qs) h ≡ high → listed_in l₀ s₀ (bytes (trace c qs)) ≡ some k → Inside l₀ s₀ fresh c (trace c qs)
+      → role_at (chip_after c qs) h ≡ high → listed_in l₀ s₀ (bytes (trace c qs)) ≡ Some k → Inside l₀ s₀ fresh c (trace c qs)
       → Ready k c (trace c qs) (entry (chip_after c qs) h)
   unfolding trace chip_after bytes
   ready l₀ s₀ c k [] h g n eh le i = tt
@@ -430,8 +430,8 @@ module _ (extra : ℕ) (L : Laws extra) where
       s : List Entry
       s = trace (next_chip c r) qs
 
-      go : (ρ : Role) → role_at c r ≡ ρ → (k : ℕ) → listed_in l₀ s₀ (bytes (trace c (r ∷ qs))) ≡ some k
-          → ((k' : ℕ) → Inside l₀ s₀ fresh (next_chip c r) (trace (next_chip c r) qs) → listed_in l₀ s₀ (bytes (trace (next_chip c r) qs)) ≡ some k'
+      go : (ρ : Role) → role_at c r ≡ ρ → (k : ℕ) → listed_in l₀ s₀ (bytes (trace c (r ∷ qs))) ≡ Some k
+          → ((k' : ℕ) → Inside l₀ s₀ fresh (next_chip c r) (trace (next_chip c r) qs) → listed_in l₀ s₀ (bytes (trace (next_chip c r) qs)) ≡ Some k'
           → Ready k' (next_chip c r) (trace (next_chip c r) qs) (entry (chip_after (next_chip c r) qs) h))
           → Ready k c (trace c (r ∷ qs)) (entry (chip_after c (r ∷ qs)) h)
       go event e k le f = rw e (f k (inside_event l₀ s₀ fresh c s r g (event_of_lem r (outcome c r) e) i) (rw e at le))
@@ -466,8 +466,8 @@ module _ (extra : ℕ) (L : Laws extra) where
       x = entry (chip_after (next_chip c l) qs) h
 
       go : (o : Option ℕ) → listed extra (entry c l) s ≡ o → Fits c (placed (listed extra (entry c l) s) (entry c l) s x ++ rest) d
-      go none e = rw e (subst (λ (t : List Entry). Fits c (entry c l ∷ t) d) (sym (append_snoc s x rest)) f)
-      go (some k) e =
+      go None e = rw e (subst (λ (t : List Entry). Fits c (entry c l ∷ t) d) (sym (append_snoc s x rest)) f)
+      go (Some k) e =
           let w = inside_low c s l g el in
           let g' = good_next c l g in
           let es = events (before k s) in

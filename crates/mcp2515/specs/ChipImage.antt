@@ -1,13 +1,14 @@
 -- The chip that an image stands for, and what a call that is lent an image promises.
-use Rattle.std.specs.Prelude.{◌≡◌, Bool, List, ℕ, length, drop}
+use Rattle.std.specs.Prelude.{◌≡◌, Bool, List, ℕ, length, drop, Result}
+use Rattle.records.specs.declared.Refusal.{Refusal}
+use Rattle.records.specs.declared.Answer.{Answer}
 use Rattle.records.specs.declared.Outcome.{Outcome}
-use Rattle.registers.specs.declared.Core.{Core}
+use Rattle.records.specs.Records.{accepted, refusal_in, outcome_of}
 use Rattle.receiving.specs.AnswerSets.{wanted_set}
-use Rattle.image.specs.Image.{image_size, core_of}
-use Rattle.spi.specs.declared.Act.{Act}
-use Rattle.spi.specs.Instructions.{refusal_of, reply_to}
+use Rattle.image.specs.Image.{image_size, core_of, RefusedKept}
 use Rattle.spi.specs.Open.{select_of}
 use Rattle.mcp2515.specs.declared.Chip.{Chip}
+use Rattle.mcp2515.specs.Step.{outcome, next_chip}
 
 abbrev pub chip_of : List ℕ → Chip
 chip_of m = record { core = core_of m; select = select_of m }
@@ -31,9 +32,12 @@ pub record Advanced (m n : List ℕ) (c : Chip) : Type 0 where
 abbrev pub wanted_outcome : Bool → Outcome → Outcome
 wanted_outcome wanted o = record { refusal = o.refusal; answer = o.answer; matched = wanted_set wanted o.matched }
 
--- what an act of the SPI side tells
-abbrev pub act_outcome : Act → Core → Outcome
-act_outcome x k = record { refusal = refusal_of x; answer = reply_to x k; matched = 0 }
+-- what a step of the SPI side does to an image m, which it leaves as n, and what it tells of the record r. Refused, no byte changes
+pub record SpiStep (m n r : List ℕ) (x : Result Answer Refusal) : Type 0 where
+  pub told : outcome_of x ≡ outcome (chip_of m) r
+  pub moved : Moved m n (next_chip (chip_of m) r)
+  pub refused_kept : RefusedKept (refusal_in x) m n
 
-abbrev pub told : ℕ → ℕ → Outcome
-told n a = record { refusal = n; answer = a; matched = 0 }
+-- accepted with this answer
+abbrev pub told : ℕ → Outcome
+told a = record { refusal = accepted; answer = a; matched = 0 }

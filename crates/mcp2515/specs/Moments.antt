@@ -1,9 +1,8 @@
 -- The single-moment list and the tidied list: a command happens at one moment, whatever bus and pins do.
 -- The words session, command, listed, moment, event and tidied list are those of the rules.
-use Rattle.std.specs.Prelude.{Bool, true, false, cond, not, ◌&&◌, List, [], ◌∷◌, ◌++◌, ◌≡◌, ℕ, zero, suc, ◌+◌, ◌-◌, ◌%◌, length, eqb, leb}
-use Rattle.std.proofs.Math.Option.{Option, none, some}
+use Rattle.std.specs.Prelude.{Bool, true, false, cond, not, ◌&&◌, List, [], ◌∷◌, ◌++◌, ◌≡◌, ℕ, zero, suc, ◌+◌, ◌-◌, ◌%◌, length, eqb, leb, Option, Some, None}
 use Rattle.records.specs.declared.Kind.{Kind}
-use Rattle.records.specs.declared.Kind.TheVariants.{SelectLow, Exchange, SelectHigh, FrameHeard, BusIdle, FrameEnds, ReceiveError, Recovery, PinLevel, Unknown}
+use Rattle.records.specs.declared.Kind.TheVariants.{SelectLow, Exchange, SelectHigh, FrameHeard, BusIdle, FrameEnds, ReceiveError, Recovery, PinLevel}
 use Rattle.records.specs.Records.{byte_at, kind_of, is_event}
 use Rattle.registers.specs.declared.TxBuffer.{TxBuffer}
 use Rattle.registers.specs.declared.Core.{Core}
@@ -24,17 +23,17 @@ use Rattle.mcp2515.specs.Step.{power_on, speaker_in, next_chip, outcome, chip_af
 pub data Role : Type 0 where
   event low exchange high other : Role
 
-abbrev pub accepted_role : Kind → Role
-accepted_role SelectLow = low
-accepted_role Exchange = exchange
-accepted_role SelectHigh = high
-accepted_role FrameHeard = event
-accepted_role BusIdle = event
-accepted_role FrameEnds = event
-accepted_role ReceiveError = event
-accepted_role Recovery = event
-accepted_role PinLevel = event
-accepted_role Unknown = other
+abbrev pub accepted_role : Option Kind → Role
+accepted_role (Some SelectLow) = low
+accepted_role (Some Exchange) = exchange
+accepted_role (Some SelectHigh) = high
+accepted_role (Some FrameHeard) = event
+accepted_role (Some BusIdle) = event
+accepted_role (Some FrameEnds) = event
+accepted_role (Some ReceiveError) = event
+accepted_role (Some Recovery) = event
+accepted_role (Some PinLevel) = event
+accepted_role None = other
 
 unfoldable pub role_of : List ℕ → Outcome → Role
 role_of r o = cond (is_event (kind_of r)) event (cond (eqb o.refusal 0) (accepted_role (kind_of r)) other)
@@ -147,9 +146,9 @@ bytes (x ∷ xs) = cond (is_exchange (role_in x)) (byte_at x.rec 1 ∷ bytes xs)
 -- The moment, if a session of this speaker with this inside and these bytes, its select low at this chip, is listed. A session with no
 -- exchange is a command cut short. A code that the panel may not give counts as unknown.
 unfoldable pub listed_by : ℕ → Speaker → Chip → List Entry → List ℕ → Option ℕ
-listed_by extra p c s [] = some 0
+listed_by extra p c s [] = Some 0
 listed_by extra p c s (b ∷ bs) =
-    cond (leb (length (b ∷ bs)) (most extra (command_by p b)) && allowed c.core s (command_by p b)) (some (moment_of extra (command_by p b))) none
+    cond (leb (length (b ∷ bs)) (most extra (command_by p b)) && allowed c.core s (command_by p b)) (Some (moment_of extra (command_by p b))) None
 
 -- by its select low and what stands inside
 abbrev pub listed : ℕ → Entry → List Entry → Option ℕ
@@ -176,8 +175,8 @@ after k (x ∷ xs) = cond (is_exchange (role_in x)) (elim k [ zero ↦ x ∷ xs 
 -- A session: its select low, what stands inside, its select high. A listed one gives up its events: those before the moment move
 -- right ahead of select low, the others right behind select high.
 unfoldable pub placed : Option ℕ → Entry → List Entry → Entry → List Entry
-placed none l s h = l ∷ (s ++ (h ∷ []))
-placed (some k) l s h = events (before k s) ++ (l ∷ (others s ++ (h ∷ events (after k s))))
+placed None l s h = l ∷ (s ++ (h ∷ []))
+placed (Some k) l s h = events (before k s) ++ (l ∷ (others s ++ (h ∷ events (after k s))))
 
 unfoldable pub session : ℕ → Entry → List Entry → Entry → List Entry
 session extra l s h = placed (listed extra l s) l s h
@@ -225,8 +224,8 @@ SameOrder extra = (t : List Entry) → (events (tidy extra t) ≡ events t) × (
 
 -- no event stands inside a listed session
 abbrev pub Still : Option ℕ → List Entry → Type 0
-Still none s = Unit {0}
-Still (some k) s = events s ≡ []
+Still None s = Unit {0}
+Still (Some k) s = events s ≡ []
 
 abbrev pub Apart : ℕ → Place → List Entry → Type 0
 Apart extra p [] = Unit {0}

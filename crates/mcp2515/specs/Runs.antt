@@ -1,11 +1,10 @@
 -- What holds of every chip that a run from power-on reaches, and what no step does to a filter, a mask or the level of a pin.
-use Rattle.std.specs.Prelude.{ℕ, ◌%◌, Bool, true, false, not, ◌&&◌, ◌||◌, List, ◌≡◌}
+use Rattle.std.specs.Prelude.{ℕ, ◌%◌, Bool, true, false, not, ◌&&◌, ◌||◌, List, ◌≡◌, Option, Some, None}
 use Rattle.records.specs.declared.Kind.TheVariants.{PinLevel}
 use Rattle.records.specs.Records.{kind_of}
 use Rattle.registers.specs.declared.Region.{Region}
 use Rattle.registers.specs.declared.Region.TheVariants.{Filters, Masks}
-use Rattle.registers.specs.declared.Request.{Request}
-use Rattle.registers.specs.declared.Request.TheVariants.{Nothing, Wanted}
+use Rattle.registers.specs.declared.Mode.{Mode}
 use Rattle.registers.specs.declared.Control.{Control}
 use Rattle.registers.specs.State.{is_configuration, is_idle}
 use Rattle.registers.specs.Registers.{region_of, holds}
@@ -25,9 +24,9 @@ abbrev pub SettledReached : Type 0
 SettledReached = Reached (λ c. settled c ≡ c)
 
 -- one that is left waits for a TXREQ or a flight, in Normal or Loopback
-abbrev pub is_pending : Request → Bool
-is_pending Nothing = false
-is_pending (Wanted m) = true
+abbrev pub is_pending : Option Mode → Bool
+is_pending None = false
+is_pending (Some m) = true
 
 abbrev pub PendingReached : Type 0
 PendingReached =
@@ -69,4 +68,4 @@ MasksKept = (c : Chip) (r : List ℕ) → stores_in_configuration c r ≡ false 
 
 -- ---- the level of a request pin changes by a record of kind 8 and by nothing else: by no other event, and not by RESET
 abbrev pub PinsKept : Type 0
-PinsKept = (c : Chip) (r : List ℕ) → (kind_of r ≡ PinLevel → ⊥) → (next_chip c r).core.pins ≡ c.core.pins
+PinsKept = (c : Chip) (r : List ℕ) → (kind_of r ≡ Some PinLevel → ⊥) → (next_chip c r).core.pins ≡ c.core.pins

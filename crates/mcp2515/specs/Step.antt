@@ -1,9 +1,9 @@
 -- The step: any chip and any record of 16 bytes; and the run of a list of records.
-use Rattle.std.specs.Prelude.{ℕ, cond, List, [], ◌∷◌}
+use Rattle.std.specs.Prelude.{ℕ, cond, List, [], ◌∷◌, Option, Some, None}
 use Rattle.records.specs.declared.Kind.{Kind}
-use Rattle.records.specs.declared.Kind.TheVariants.{SelectLow, Exchange, SelectHigh, FrameHeard, BusIdle, FrameEnds, ReceiveError, Recovery, PinLevel, Unknown}
+use Rattle.records.specs.declared.Kind.TheVariants.{SelectLow, Exchange, SelectHigh, FrameHeard, BusIdle, FrameEnds, ReceiveError, Recovery, PinLevel}
 use Rattle.records.specs.declared.Outcome.{Outcome}
-use Rattle.records.specs.Records.{refused_select, refused_field, refused_speaker, byte_at, kind_of, is_event, sound_of}
+use Rattle.records.specs.Records.{accepted, refused_select, refused_field, refused_speaker, byte_at, kind_of, is_event, sound_of}
 use Rattle.registers.specs.Registers.{power_on_core}
 use Rattle.controller.specs.Events.{event_of}
 use Rattle.spi.specs.declared.Instruction.TheVariants.{First}
@@ -27,39 +27,44 @@ speaker_in r = speaker_by (byte_at r 2)
 
 -- refusal 1: lowering a select that is low, or exchanging over or raising one that is high; after it refusal 18: exchanging over or raising
 -- one that the other has lowered
-abbrev pub asked_by : Kind → Select → Speaker → ℕ → Act
-asked_by SelectLow Raised p b = Rest
-asked_by SelectLow (Lowered q i) p b = Refuse refused_select
-asked_by Exchange Raised p b = Refuse refused_select
-asked_by Exchange (Lowered q i) p b = cond (same_speaker q p) (act_by q i b) (Refuse refused_speaker)
-asked_by SelectHigh Raised p b = Refuse refused_select
-asked_by SelectHigh (Lowered q i) p b = cond (same_speaker q p) (high_act q i) (Refuse refused_speaker)
-asked_by FrameHeard s p b = Refuse refused_field
-asked_by BusIdle s p b = Refuse refused_field
-asked_by FrameEnds s p b = Refuse refused_field
-asked_by ReceiveError s p b = Refuse refused_field
-asked_by Recovery s p b = Refuse refused_field
-asked_by PinLevel s p b = Refuse refused_field
-asked_by Unknown s p b = Refuse refused_field
+abbrev pub asked_by : Option Kind → Select → Speaker → ℕ → Act
+asked_by (Some SelectLow) Raised p b = Rest
+asked_by (Some SelectLow) (Lowered q i) p b = Refuse refused_select
+asked_by (Some Exchange) Raised p b = Refuse refused_select
+asked_by (Some Exchange) (Lowered q i) p b = cond (same_speaker q p) (act_by q i b) (Refuse refused_speaker)
+asked_by (Some SelectHigh) Raised p b = Refuse refused_select
+asked_by (Some SelectHigh) (Lowered q i) p b = cond (same_speaker q p) (high_act q i) (Refuse refused_speaker)
+asked_by (Some FrameHeard) s p b = Refuse refused_field
+asked_by (Some BusIdle) s p b = Refuse refused_field
+asked_by (Some FrameEnds) s p b = Refuse refused_field
+asked_by (Some ReceiveError) s p b = Refuse refused_field
+asked_by (Some Recovery) s p b = Refuse refused_field
+asked_by (Some PinLevel) s p b = Refuse refused_field
+asked_by None s p b = Refuse refused_field
+
+-- so an exchange or select high is refused
+abbrev pub line_refusal : Select → Speaker → ℕ
+line_refusal Raised p = refused_select
+line_refusal (Lowered q i) p = cond (same_speaker q p) accepted refused_speaker
 
 -- refusal 2 comes before both
 unfoldable pub asked : Select → List ℕ → Act
 asked s r = cond (sound_of r) (asked_by (kind_of r) s (speaker_in r) (byte_at r 1)) (Refuse refused_field)
 
-abbrev pub turned_by : Kind → Select → Speaker → ℕ → Select
-turned_by SelectLow Raised p b = Lowered p First
-turned_by SelectLow (Lowered q i) p b = Lowered q i
-turned_by Exchange Raised p b = Raised
-turned_by Exchange (Lowered q i) p b = cond (same_speaker q p) (Lowered q (next_by q i b)) (Lowered q i)
-turned_by SelectHigh Raised p b = Raised
-turned_by SelectHigh (Lowered q i) p b = cond (same_speaker q p) Raised (Lowered q i)
-turned_by FrameHeard s p b = s
-turned_by BusIdle s p b = s
-turned_by FrameEnds s p b = s
-turned_by ReceiveError s p b = s
-turned_by Recovery s p b = s
-turned_by PinLevel s p b = s
-turned_by Unknown s p b = s
+abbrev pub turned_by : Option Kind → Select → Speaker → ℕ → Select
+turned_by (Some SelectLow) Raised p b = Lowered p First
+turned_by (Some SelectLow) (Lowered q i) p b = Lowered q i
+turned_by (Some Exchange) Raised p b = Raised
+turned_by (Some Exchange) (Lowered q i) p b = cond (same_speaker q p) (Lowered q (next_by q i b)) (Lowered q i)
+turned_by (Some SelectHigh) Raised p b = Raised
+turned_by (Some SelectHigh) (Lowered q i) p b = cond (same_speaker q p) Raised (Lowered q i)
+turned_by (Some FrameHeard) s p b = s
+turned_by (Some BusIdle) s p b = s
+turned_by (Some FrameEnds) s p b = s
+turned_by (Some ReceiveError) s p b = s
+turned_by (Some Recovery) s p b = s
+turned_by (Some PinLevel) s p b = s
+turned_by None s p b = s
 
 unfoldable pub turned : Select → List ℕ → Select
 turned s r = cond (sound_of r) (turned_by (kind_of r) s (speaker_in r) (byte_at r 1)) s

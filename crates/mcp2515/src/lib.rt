@@ -2,10 +2,12 @@
 #![tactic(auto)]
 
 mod packing;
-mod steps;
+mod slices;
+pub mod steps;
 
 pub use packing::{pack, unpack};
-pub use steps::{hold, int_is_low, power_on, read, step, step_in_place};
+pub use slices::step_in_place;
+pub use steps::{hold, int_is_low, power_on, read, step};
 
 #[derive(Clone, Copy)]
 pub struct Chip {
@@ -14,7 +16,7 @@ pub struct Chip {
 }
 
 // A step by value: the refusal (0 for none), the answer, the filters that match the record's frame (bit n for filter n), and the chip
-// after it.
+// after it. The chip by value and the refusal by number are what `step` promises; a run of many steps takes `steps::step_in_place`.
 #[derive(Clone, Copy)]
 pub struct Stepped {
     pub chip: Chip,

@@ -11,13 +11,12 @@ use Rattle.mcp2515.specs.Step.{chip_after}
 use Rattle.mcp2515.proofs.CoreKept.{either}
 use Rattle.load_rules.specs.Load.{events_in}
 use Rattle.load_rules.proofs.Gapped.{after_append}
-use Rattle.profile_loader.specs.declared.Gap.{Gap}
-use Rattle.profile_loader.specs.Gaps.{entry_size, due, not_due, goes_by, log_of, start_at, timed_of, entries_left, Came, GapRun}
+use Rattle.profile_loader.specs.Gaps.{Between, entry_size, due, not_due, goes_by, log_of, start_at, timed_of, entries_left, Came, GapRun}
 use Rattle.profile_loader.proofs.Logs.{Sized, sized_none, sized_cons, put_append}
 use Rattle.profile_loader.proofs.Entries.{left_next, gone_by, held_up}
 
 -- from y on as from x on
-pub record Ahead (x y : Gap) (events : List ℕ) (n : ℕ) (room after : List ℕ) : Type 0 where
+pub record Ahead (x y : Between) (events : List ℕ) (n : ℕ) (room after : List ℕ) : Type 0 where
   pub chip : chip_after y.chip (due n (entries_left events y.left)) ≡ chip_after x.chip (due n (entries_left events x.left))
   pub sent : y.sent + 16 * length (due n (entries_left events y.left)) ≡ x.sent + 16 * length (due n (entries_left events x.left))
   pub records : sets after y.sent (log_of (due n (entries_left events y.left))) ≡ sets room x.sent (log_of (due n (entries_left events x.left)))
@@ -25,7 +24,7 @@ pub record Ahead (x y : Gap) (events : List ℕ) (n : ℕ) (room after : List �
   pub fewer : y.left ≤ x.left
   pub bound : y.sent + 16 * y.left ≤ x.sent + 16 * x.left
 
-pub at_first : (x : Gap) (events : List ℕ) (n : ℕ) (room : List ℕ) → Ahead x x events n room room
+pub at_first : (x : Between) (events : List ℕ) (n : ℕ) (room : List ℕ) → Ahead x x events n room room
 at_first x events n room = record { chip = refl; sent = refl; records = refl; left = refl; fewer = omega arith; bound = omega arith }
 
 -- of one record at most one comes
@@ -37,7 +36,7 @@ one_sized : (r : List ℕ) → length r ≡ 16 → Sized (events_in (r ∷ []))
 unfolding events_in
 one_sized r e = either Sized (is_event (kind_of r)) {x = r ∷ []} {y = []} (sized_cons r [] e sized_none) sized_none
 
-pub one_further : (x y z : Gap) (events : List ℕ) (n : ℕ) (room mid after r : List ℕ) → 0 < y.left → y.left ≤ length events / entry_size
+pub one_further : (x y z : Between) (events : List ℕ) (n : ℕ) (room mid after r : List ℕ) → 0 < y.left → y.left ≤ length events / entry_size
     → goes_by n (entries_left events y.left) ≡ true → r ≡ take 16 (drop 4 (drop (start_at events y.left) events))
     → Came y z (events_in (r ∷ [])) mid after → z.left + 1 ≡ y.left → Ahead x y events n room mid → Ahead x z events n room after
 one_further x y z events n room mid after r more fits by is w less h =
@@ -58,7 +57,7 @@ one_further x y z events n room mid after r more fits by is w less h =
       bound = omega (arith, w.sent, one_most r, h.bound);
     }
 
-pub all_come : (x y : Gap) (events : List ℕ) (n : ℕ) (room after : List ℕ) → goes_by n (entries_left events y.left) ≡ false
+pub all_come : (x y : Between) (events : List ℕ) (n : ℕ) (room after : List ℕ) → goes_by n (entries_left events y.left) ≡ false
     → Ahead x y events n room after → GapRun x y events n room after
 unfolding chip_after log_of
 all_come x y events n room after e h =

@@ -9,9 +9,8 @@ use lib.ListN.{length, length-append}
 use Rattle.registers.specs.declared.Mode.{Mode}
 use Rattle.spi.proofs.Clash.{clash}
 use Rattle.load_rules.specs.Load.{gap_before, Progress, turn_of, turns}
-use Rattle.profile_loader.specs.declared.Loading.{Loading}
 use Rattle.profile_loader.specs.Gaps.{entry_size, entries_in, due, not_due, left_before, gaps_of, log_of, entries_left}
-use Rattle.profile_loader.specs.Running.{progress_of, Follows, is_ended, Turned}
+use Rattle.profile_loader.specs.Running.{Underway, progress_of, Follows, is_ended, Turned}
 use Rattle.profile_loader.proofs.Logs.{Sized, sized_none, sized_append, put_append}
 use Rattle.profile_loader.proofs.Entries.{sized_left, gap_due, all_left}
 use Rattle.profile_loader.proofs.Turns.{ended_stay, behind, afresh, turn_behind, sized_turn, turns_snoc}
@@ -21,14 +20,14 @@ abbrev pub so_far : Progress → List ℕ → Mode → List ℕ → ℕ → Prog
 so_far s p m events n = turns p m (gaps_of (entries_in events)) n 0 s
 
 -- n turns have come to s
-pub record Going (s : Progress) (events : List ℕ) (n : ℕ) (y : Loading) (room after : List ℕ) : Type 0 where
+pub record Going (s : Progress) (events : List ℕ) (n : ℕ) (y : Underway) (room after : List ℕ) : Type 0 where
   pub follows : Follows 0 s y room after
   pub sized : Sized s.sent
   pub left : is_ended s.stage ≡ false → entries_left events y.gap.left ≡ left_before n (entries_in events)
   pub fewer : y.gap.left ≤ length events / entry_size
   pub bound : y.gap.sent + 16 * y.gap.left ≤ 16 * (length events / entry_size) + 96 * n
 
-pub begins : (x : Loading) (p : List ℕ) (m : Mode) (events room : List ℕ) → x.gap.left ≡ length events / entry_size → x.gap.sent ≡ 0
+pub begins : (x : Underway) (p : List ℕ) (m : Mode) (events room : List ℕ) → x.gap.left ≡ length events / entry_size → x.gap.sent ≡ 0
     → Going (so_far (progress_of x []) p m events 0) events 0 x room room
 unfolding turns left_before log_of
 begins x p m events room all none =
@@ -40,7 +39,7 @@ begins x p m events room all none =
       bound = omega arith;
     }
 
-module _ (begin : Progress) (p : List ℕ) (m : Mode) (events : List ℕ) (n : ℕ) (y z : Loading) (room mid after : List ℕ)
+module _ (begin : Progress) (p : List ℕ) (m : Mode) (events : List ℕ) (n : ℕ) (y z : Underway) (room mid after : List ℕ)
     (h : Going (so_far begin p m events n) events n y room mid) (w : Turned y z p m events n mid after) where
   abbrev s : Progress
   s = so_far begin p m events n

@@ -4,4 +4,3 @@ pub mod Ahead
 pub mod Sessions
 pub mod Turns
 pub mod Going
-pub mod Stepping

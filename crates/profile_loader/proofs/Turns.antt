@@ -17,17 +17,15 @@ use Rattle.load_machine.specs.declared.Turn.TheVariants.{Send, Say}
 use Rattle.load_machine.specs.declared.Verdict.{Verdict}
 use Rattle.load_machine.specs.Machine.{next_of, following_of, records_in, session_of}
 use Rattle.load_rules.specs.Load.{gap_before, Progress, turn_by, turn_of, turns}
-use Rattle.profile_loader.specs.declared.Gap.{Gap}
 use Rattle.profile_loader.specs.declared.Replied.{Replied}
-use Rattle.profile_loader.specs.declared.Loading.{Loading}
-use Rattle.profile_loader.specs.Gaps.{entry_size, due, log_of, entries_left, GapRun}
-use Rattle.profile_loader.specs.Running.{replied, Advanced, is_ended}
+use Rattle.profile_loader.specs.Gaps.{Between, entry_size, due, log_of, entries_left, GapRun}
+use Rattle.profile_loader.specs.Running.{Underway, replied, Advanced, is_ended}
 use Rattle.profile_loader.proofs.Logs.{Sized, sized_none, sized_append, put_append}
 use Rattle.profile_loader.proofs.Entries.{sized_left}
 use Rattle.profile_loader.proofs.Sessions.{records_most, length_records, sized_records}
 
 -- what is due has come, and then the command
-pub advanced : (x : Loading) (g : Gap) (told : Replied) (stage : Stage) (k : ℕ) (p : List ℕ) (command : Command) (events : List ℕ) (n : ℕ) (room mid after : List ℕ)
+pub advanced : (x : Underway) (g : Between) (told : Replied) (stage : Stage) (k : ℕ) (p : List ℕ) (command : Command) (events : List ℕ) (n : ℕ) (room mid after : List ℕ)
     → x.gap.left ≤ length events / entry_size → GapRun x.gap g events n room mid → told ≡ replied g.chip command
     → after ≡ sets mid g.sent (log_of (session_of command)) → stage ≡ following_of p x.stage told.reply → k ≡ records_in command
     → Advanced x (record { stage = stage; gap = record { chip = told.chip; left = g.left; sent = g.sent + 16 * k } }) p command events n room after

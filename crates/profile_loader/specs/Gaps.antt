@@ -2,7 +2,9 @@
 use Rattle.std.specs.Prelude.{ℕ, zero, suc, ◌+◌, ◌*◌, ◌-◌, ◌/◌, ◌≤◌, max, Bool, false, cond, not, ◌||◌, List, [], ◌∷◌, ◌++◌, ◌≡◌, leb, length, get_or, take, drop}
 use Rattle.std.proofs.lemmas.List.Edits.{sets}
 use Rattle.records.specs.Records.{kind_of, is_event}
+use Rattle.mcp2515.specs.declared.Chip.{Chip}
 use Rattle.mcp2515.specs.Step.{chip_after}
+use Rattle.mcp2515.specs.ChipImage.{chip_of}
 use Rattle.profile_loader.specs.declared.Gap.{Gap}
 
 -- ---- entries of 20 bytes
@@ -70,14 +72,24 @@ start_at b n = (length b / entry_size - n) * entry_size
 abbrev pub entries_left : List ℕ → ℕ → List Timed
 entries_left b n = entries_from n (drop (start_at b n) b)
 
+-- a chip, the entries that are left, and how many bytes of records were put down
+pub record Between : Type 0 where
+  pub chip : Chip
+  pub left : ℕ
+  pub sent : ℕ
+
+-- the chip that the bytes m stand for, and what the code keeps beside them
+abbrev pub between : List ℕ → Gap → Between
+between m g = record { chip = chip_of m; left = g.left; sent = g.sent }
+
 -- the records rs come to the chip of x, which is that of y then, and are put into the room behind what is there already
-pub record Came (x y : Gap) (rs : List (List ℕ)) (room after : List ℕ) : Type 0 where
+pub record Came (x y : Between) (rs : List (List ℕ)) (room after : List ℕ) : Type 0 where
   pub chip : y.chip ≡ chip_after x.chip rs
   pub sent : y.sent ≡ x.sent + 16 * length rs
   pub records : after ≡ sets room x.sent (log_of rs)
 
 -- .. those that are due after n commands
-pub record GapRun (x y : Gap) (events : List ℕ) (n : ℕ) (room after : List ℕ) : Type 0 where
+pub record GapRun (x y : Between) (events : List ℕ) (n : ℕ) (room after : List ℕ) : Type 0 where
   pub came : Came x y (due n (entries_left events x.left)) room after
   pub left : entries_left events y.left ≡ not_due n (entries_left events x.left)
   pub fewer : y.left ≤ x.left

@@ -5,6 +5,7 @@ use Rattle.records.specs.Records.{byte_at}
 use Rattle.registers.specs.declared.Mode.{Mode}
 use Rattle.mcp2515.specs.declared.Chip.{Chip}
 use Rattle.mcp2515.specs.Step.{step_of, chip_after}
+use Rattle.mcp2515.specs.ChipImage.{chip_of}
 use Rattle.load_machine.specs.declared.Stage.{Stage}
 use Rattle.load_machine.specs.declared.Stage.TheVariants.{Asking, Looking, Writing, Checking, Returning, Ended}
 use Rattle.load_machine.specs.declared.Command.{Command}
@@ -14,9 +15,9 @@ use Rattle.profile_loader.specs.declared.Replied.{Replied}
 use Rattle.profile_loader.specs.declared.Loading.{Loading}
 use Rattle.profile_loader.specs.declared.Finished.{Finished}
 use Rattle.profile_loader.specs.declared.Loaded.{Loaded}
-use Rattle.profile_loader.specs.Gaps.{due, not_due, gaps_of, entries_in, log_of, entries_left}
+use Rattle.profile_loader.specs.Gaps.{Between, between, due, not_due, gaps_of, entries_in, log_of, entries_left}
 use Rattle.load_rules.specs.Laws.{LoadLaws}
-use Rattle.load_rules.specs.Load.{reply_of, Progress, turn_by, turn_of, load_of, verdict_in}
+use Rattle.load_rules.specs.Load.{reply_of, Progress, turn_by, turn_of, turns, most_commands, load_of, verdict_in}
 
 -- ---- a command
 abbrev pub exchanged : Replied → List ℕ → Replied
@@ -26,24 +27,36 @@ exchanged x r =
 unfoldable pub replied : Chip → Command → Replied
 replied c x = record { chip = chip_after c (session_of x); reply = reply_of c x }
 
+-- the chip that the bytes m stand for, with a reply
+abbrev pub replied_in : List ℕ → ℕ → Replied
+replied_in m reply = record { chip = chip_of m; reply = reply }
+
 -- ---- a turn
+-- how far a load has come, with its chip
+pub record Underway : Type 0 where
+  pub stage : Stage
+  pub gap : Between
+
+abbrev pub underway : List ℕ → Loading → Underway
+underway m x = record { stage = x.stage; gap = between m x.gap }
+
 -- the code's progress as the rules have it, with the records that it has put down since
-abbrev pub progress_of : Loading → List (List ℕ) → Progress
+abbrev pub progress_of : Underway → List (List ℕ) → Progress
 progress_of x rs = record { stage = x.stage; chip = x.gap.chip; sent = rs }
 
 -- the same progress as s, whose records are put into the room from a place on
-pub record Follows (at : ℕ) (s : Progress) (y : Loading) (room after : List ℕ) : Type 0 where
+pub record Follows (at : ℕ) (s : Progress) (y : Underway) (room after : List ℕ) : Type 0 where
   pub stage : y.stage ≡ s.stage
   pub chip : y.gap.chip ≡ s.chip
   pub sent : y.gap.sent ≡ at + 16 * length s.sent
   pub records : after ≡ sets room at (log_of s.sent)
 
 -- the entries left, and room to count
-pub record Fewer (x y : Loading) : Type 0 where
+pub record Fewer (x y : Underway) : Type 0 where
   pub left : y.gap.left ≤ x.gap.left
   pub bound : y.gap.sent + 16 * y.gap.left ≤ x.gap.sent + 16 * x.gap.left + 96
 
-pub record Advanced (x y : Loading) (p : List ℕ) (command : Command) (events : List ℕ) (n : ℕ) (room after : List ℕ) : Type 0 where
+pub record Advanced (x y : Underway) (p : List ℕ) (command : Command) (events : List ℕ) (n : ℕ) (room after : List ℕ) : Type 0 where
   pub follows : Follows x.gap.sent (turn_by (Send command) p (due n (entries_left events x.gap.left)) (progress_of x [])) y room after
   pub left : entries_left events y.gap.left ≡ not_due n (entries_left events x.gap.left)
   pub fewer : Fewer x y
@@ -56,10 +69,16 @@ is_ended (Checking i agreed) = false
 is_ended (Returning v) = false
 is_ended (Ended v) = true
 
-pub record Turned (x y : Loading) (p : List ℕ) (m : Mode) (events : List ℕ) (n : ℕ) (room after : List ℕ) : Type 0 where
+pub record Turned (x y : Underway) (p : List ℕ) (m : Mode) (events : List ℕ) (n : ℕ) (room after : List ℕ) : Type 0 where
   pub follows : Follows x.gap.sent (turn_of p m (due n (entries_left events x.gap.left)) (progress_of x [])) y room after
   pub left : is_ended x.stage ≡ false → entries_left events y.gap.left ≡ not_due n (entries_left events x.gap.left)
   pub fewer : Fewer x y
+
+-- all turns
+pub record Gone (x y : Underway) (p : List ℕ) (m : Mode) (events room after : List ℕ) : Type 0 where
+  pub follows : Follows 0 (turns p m (gaps_of (entries_in events)) most_commands 0 (progress_of x [])) y room after
+  pub size : length (log_of (turns p m (gaps_of (entries_in events)) most_commands 0 (progress_of x [])).sent)
+      ≡ 16 * length (turns p m (gaps_of (entries_in events)) most_commands 0 (progress_of x [])).sent
 
 -- ---- the whole run, with the entries in its gaps
 abbrev pub run_of : Chip → List ℕ → List ℕ → Progress

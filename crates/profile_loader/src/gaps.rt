@@ -9,13 +9,15 @@ ghost use Rattle.profile_loader.specs.Gaps.{
   goes_by,
   start_at,
   entries_left,
+  between,
   Came,
   GapRun,
 };
 
 use crate::Gap;
-use crate::steps::step;
 use bus_log::RECORD_SIZE;
+use image::Image;
+use records::Kind;
 
 // After how many commands, in four bytes, then the record.
 pub const ENTRY_SIZE: usize = 20;
@@ -29,14 +31,13 @@ fn put_byte(room: &mut [u8], at: usize, byte: u8)
     }
 }
 
+// Byte by byte, and not by copy_from_slice: a room may end within the record.
 pub fn put_record(room: &mut [u8], at: usize, record: [u8; RECORD_SIZE])
     requires { at + 16 < 2 ^ 64 }
     ensures { room.new ≡ sets room.old at «record» }
 {
-    let mut i = 0;
-    while i < RECORD_SIZE {
+    for i in 0..RECORD_SIZE {
         put_byte(room, at + i, record[i]);
-        i += 1;
     }
 }
 
@@ -44,28 +45,27 @@ fn place_at(events: &[u8], at: usize) -> u32
     requires { at + entry_size ≤ length events.now }
     ensures { result ≡ place_of (drop at events.now) }
 {
-    records::joined(events[at], events[at + 1], events[at + 2], events[at + 3])
+    u32::from_be_bytes([events[at], events[at + 1], events[at + 2], events[at + 3]])
 }
 
 fn record_at(events: &[u8], at: usize) -> [u8; RECORD_SIZE]
     requires { at + entry_size ≤ length events.now }
     ensures { result ≡ take 16 (drop 4 (drop at events.now)) }
 {
-    let mut record = [0u8; RECORD_SIZE];
-    let mut i = 0;
-    while i < RECORD_SIZE {
-        record[i] = events[at + 4 + i];
-        i += 1;
-    }
+    let mut record = [0; RECORD_SIZE];
+    record.copy_from_slice(&events[at + 4..at + ENTRY_SIZE]);
     record
 }
 
 // Kinds 3 to 8.
+#[tactic(auto, unfolding(records::specs::Records::kind_of))]
 fn is_event(record: [u8; RECORD_SIZE]) -> bool
     ensures { result ≡ is_event (kind_of «record») }
 {
-    let kind = record[0];
-    (kind > 2) & (kind < 9)
+    match records::kind_by(record[0]) {
+        None | Some(Kind::SelectLow | Kind::Exchange | Kind::SelectHigh) => false,
+        Some(_) => true,
+    }
 }
 
 // Where the first of the entries that are left begins.
@@ -92,36 +92,33 @@ fn goes_by(events: &[u8], left: usize, number: u8) -> bool
 }
 
 // An event comes to the chip and is put down; any other record is passed over.
-fn pass(gap: Gap, record: [u8; RECORD_SIZE], room: &mut [u8]) -> Gap
+fn pass(image: &mut Image, gap: Gap, record: [u8; RECORD_SIZE], room: &mut [u8]) -> Gap
     requires { (gap.sent + 16 < 2 ^ 64) × (0 < gap.left) }
-    ensures came { Came gap result (events_in («record» ∷ [])) room.old room.new }
+    ensures came { Came (between image.old gap) (between image.new result) (events_in («record» ∷ [])) room.old room.new }
     ensures left_value { result.left + 1 ≡ gap.left }
 {
-    let chip = gap.chip;
     let left = gap.left - 1;
     let sent = gap.sent;
     if !is_event(record) {
-        return Gap { chip, left, sent };
+        return Gap { left, sent };
     }
     put_record(room, sent, record);
-    let stepped = step(chip, record);
-    let next = stepped.chip;
+    bus_log::run_one(image, &record);
     Gap {
-        chip: next,
         left,
         sent: sent + RECORD_SIZE,
     }
 }
 
-// What is due after number commands comes, in its order.
-pub fn happen<'a>(gap: Gap, events: &'a [u8], number: u8, room: &'a mut [u8]) -> Gap
+// What is due after number commands comes, in its order. A while: how many come shows on the way.
+pub fn happen(image: &mut Image, gap: Gap, events: &[u8], number: u8, room: &mut [u8]) -> Gap
     requires { (gap.left ≤ length events.now / entry_size) × (gap.sent + 16 * gap.left < 2 ^ 64) }
-    ensures { GapRun gap result events.now number room.old room.new }
+    ensures { GapRun (between image.old gap) (between image.new result) events.now number room.old room.new }
 {
     let mut gap = gap;
     while goes_by(events, gap.left, number) {
         let at = start_of(events, gap.left);
-        gap = pass(gap, record_at(events, at), room);
+        gap = pass(image, gap, record_at(events, at), room);
     }
     gap
 }

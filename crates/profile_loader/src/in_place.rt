@@ -1,5 +1,5 @@
-// The loader on a chip where it lies: each function takes the chip out, calls what is proved by value and
-// stores what that gives back.
+// The loader on a chip where it lies: each function takes the chip out, calls what is proved by value and stores what that gives
+// back. They stay so: the loader holds one chip and changes it where it lies.
 ghost use Rattle.std.specs.Prelude.{◌≡◌};
 ghost use Rattle.mcp2515.specs.Step.{step_of};
 ghost use Rattle.profile_loader.specs.Running.{replied, LoadedFrom};

@@ -10,7 +10,7 @@ use lib.ListN.{take}
 use lib.Seq.{get_or-take}
 use Rattle.bits.specs.Bit.{agree_under}
 use Rattle.receiving.specs.declared.Key.{Key}
-use Rattle.receiving.specs.declared.Hit.TheVariants.{Filter, Miss}
+use Rattle.std.specs.Prelude.{Some, None}
 use Rattle.receiving.specs.Receiving.{sidh_byte, sidl_byte, eid8_byte, eid0_byte, filter_at, mask_at, lowest_from}
 use Rattle.receiving.specs.Words.{word_at, counted, word_matches}
 
@@ -22,11 +22,11 @@ module _ (f : ℕ → Bool) (i e : ℕ) where
   unfolding lowest_from
   skipped h p = rw (one_more i e h) (simp (p, add-one))
 
-  pub found : i < e → f i ≡ true → lowest_from f i (e - i) ≡ Filter i
+  pub found : i < e → f i ≡ true → lowest_from f i (e - i) ≡ Some i
   unfolding lowest_from
   found h p = rw (one_more i e h) (simp p)
 
-  pub ended : i ≡ e → lowest_from f i (e - i) ≡ Miss
+  pub ended : e ≤ i → lowest_from f i (e - i) ≡ None
   unfolding lowest_from
   ended p =
       let z : e - i ≡ 0 = omega arith in

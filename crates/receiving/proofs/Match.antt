@@ -17,7 +17,7 @@ use Rattle.registers.specs.Registers.{rx_control}
 use Rattle.registers.specs.declared.Control.{Control}
 use Rattle.registers.specs.declared.RxBuffer.{RxBuffer}
 use Rattle.registers.specs.declared.RxBuffer.TheVariants.{Rxb0, Rxb1}
-use Rattle.receiving.specs.declared.Hit.TheVariants.{Filter}
+use Rattle.std.specs.Prelude.{Some}
 use Rattle.receiving.specs.Receiving.{sidh_byte, sidl_byte, eid8_byte, eid0_byte, identifier_place, identifier_width, filter_at, mask_at, bit_at, agrees_at, carried_by, matches, takes_any, hit_for}
 use Rattle.receiving.specs.Words.{four_at, key_bytes, reach_bytes, key_of, always_bytes, counted, word_matches, MatchesBitwise}
 use Rattle.receiving.proofs.Look.{lowest_below}
@@ -248,5 +248,5 @@ matches_bitwise m f n =
 -- ---- so the look finds the rule's filter
 pub hit_same : (c : Control) (m : List ℕ) (f : Frame) (b : RxBuffer) → hit_for c (word_matches m (key_of f)) b ≡ hit_for c (matches m f) b
 unfolding hit_for
-hit_same c m f Rxb0 = ap (cond (takes_any (rx_control c.rx Rxb0)) (Filter 0)) (lowest_below 0 2 (λ k h. matches_bitwise m f k))
-hit_same c m f Rxb1 = ap (cond (takes_any (rx_control c.rx Rxb1)) (Filter 0)) (lowest_below 2 4 (λ k h. matches_bitwise m f k))
+hit_same c m f Rxb0 = ap (cond (takes_any (rx_control c.rx Rxb0)) (Some 0)) (lowest_below 0 2 (λ k h. matches_bitwise m f k))
+hit_same c m f Rxb1 = ap (cond (takes_any (rx_control c.rx Rxb1)) (Some 0)) (lowest_below 2 4 (λ k h. matches_bitwise m f k))

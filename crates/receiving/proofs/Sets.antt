@@ -16,8 +16,7 @@ use Rattle.records.specs.declared.Frame.{Frame}
 use Rattle.registers.specs.declared.RxBuffer.{RxBuffer}
 use Rattle.registers.specs.declared.RxBuffer.TheVariants.{Rxb0, Rxb1}
 use Rattle.receiving.specs.declared.Key.{Key}
-use Rattle.receiving.specs.declared.Hit.{Hit}
-use Rattle.receiving.specs.declared.Hit.TheVariants.{Filter, Miss}
+use Rattle.std.specs.Prelude.{Option, Some, None}
 use Rattle.receiving.specs.Receiving.{filters, set_of, matches, matched_of, lowest_from, lowest_for, hit_for, share_of, is_miss, SetBits, HitIsLowest}
 use Rattle.receiving.specs.Words.{key_of, word_matches}
 use Rattle.receiving.proofs.Look.{matches_take, lowest_below}
@@ -87,9 +86,9 @@ lowest_in f Rxb0 = lowest_below 0 2 (λ n h. sym (set_bits f n (omega arith)))
 lowest_in f Rxb1 = lowest_below 2 4 (λ n h. sym (set_bits f n (omega arith)))
 
 -- of every set: what a buffer finds is the lowest bit of its share, and nothing just if that is empty
-sound : RxBuffer → ℕ → Hit → Bool
-sound b s (Filter h) = has_bit (share_of b s) h && eqb (share_of b s % 2 ^ h) 0 && not (eqb (share_of b s) 0)
-sound b s Miss = eqb (share_of b s) 0
+sound : RxBuffer → ℕ → Option ℕ → Bool
+sound b s (Some h) = has_bit (share_of b s) h && eqb (share_of b s % 2 ^ h) 0 && not (eqb (share_of b s) 0)
+sound b s None = eqb (share_of b s) 0
 
 sound_all : (b : RxBuffer) (s : ℕ) → s < 64 → T (sound b s (lowest_for (has_bit s) b))
 unfolding sound lowest_from
@@ -97,22 +96,22 @@ sound_all Rxb0 s h = every (λ s. sound Rxb0 s (lowest_for (has_bit s) Rxb0)) 64
 sound_all Rxb1 s h = every (λ s. sound Rxb1 s (lowest_for (has_bit s) Rxb1)) 64 tt s h
 
 module _ (b : RxBuffer) (s : ℕ) where
-  sound_bit : (h : ℕ) → T (sound b s (Filter h)) → has_bit (share_of b s) h ≡ true
+  sound_bit : (h : ℕ) → T (sound b s (Some h)) → has_bit (share_of b s) h ≡ true
   unfolding sound
   sound_bit h t =
       let both = and_left (has_bit (share_of b s) h && eqb (share_of b s % 2 ^ h) 0) (not (eqb (share_of b s) 0)) t in
       is_true (has_bit (share_of b s) h) (and_left (has_bit (share_of b s) h) (eqb (share_of b s % 2 ^ h) 0) both)
 
-  sound_lowest : (h : ℕ) → T (sound b s (Filter h)) → share_of b s % 2 ^ h ≡ 0
+  sound_lowest : (h : ℕ) → T (sound b s (Some h)) → share_of b s % 2 ^ h ≡ 0
   unfolding sound
   sound_lowest h t =
       let both = and_left (has_bit (share_of b s) h && eqb (share_of b s % 2 ^ h) 0) (not (eqb (share_of b s) 0)) t in
       eqb→eq (share_of b s % 2 ^ h) 0 (and_right (has_bit (share_of b s) h) (eqb (share_of b s % 2 ^ h) 0) both)
 
-  sound_none : (x : Hit) → T (sound b s x) → is_miss x ≡ eqb (share_of b s) 0
+  sound_none : (x : Option ℕ) → T (sound b s x) → is_miss x ≡ eqb (share_of b s) 0
   unfolding sound
-  sound_none (Filter h) t = sym (is_false (eqb (share_of b s) 0) (and_right (has_bit (share_of b s) h && eqb (share_of b s % 2 ^ h) 0) (not (eqb (share_of b s) 0)) t))
-  sound_none Miss t = sym (is_true (eqb (share_of b s) 0) t)
+  sound_none (Some h) t = sym (is_false (eqb (share_of b s) 0) (and_right (has_bit (share_of b s) h && eqb (share_of b s % 2 ^ h) 0) (not (eqb (share_of b s) 0)) t))
+  sound_none None t = sym (is_true (eqb (share_of b s) 0) t)
 
 pub hit_is_lowest : HitIsLowest
 unfolding hit_for matched_of

@@ -11,10 +11,12 @@ use borrow.Author.Tests.{lt-ltb, le-ltb, ltb-true, ltb-false}
 use Rattle.records.specs.declared.Frame.{Frame}
 use Rattle.records.specs.Records.{data_bytes}
 use Rattle.registers.specs.declared.Core.{Core}
+use Rattle.registers.specs.declared.RxBuffer.{RxBuffer}
+use Rattle.registers.specs.declared.RxBuffer.TheVariants.{Rxb0, Rxb1}
 use Rattle.registers.specs.State.{updated, with_rx_bytes}
 use Rattle.image.specs.Image.{image_size, core_of, Became}
 use Rattle.image.proofs.Laws.{rx_set, became_low, followed}
-use Rattle.receiving.specs.Receiving.{sidh_of, sidl_of, eid8_of, eid0_of, dlc_of, carried_by, headed, filled, bytes_stored}
+use Rattle.receiving.specs.Receiving.{sidh_of, sidl_of, eid8_of, eid0_of, dlc_of, carried_by, headed, filled, bytes_at, bytes_stored}
 
 -- ---- of the eight data bytes a code tells those that it stands for
 pub code_tells : (j code : ℕ) → j < 8 → ltb j code ≡ ltb j (data_bytes code)
@@ -61,8 +63,13 @@ module _ {m n : List ℕ} {k : Core} (w : Became m n k) (o : ℕ) (h : o ≤ 16)
       (96 + o + 5) (o + 5) (omega arith) (omega arith) (dlc_of f)
 
 -- ---- a frame whole
-pub frame_put : (m n : List ℕ) (o : ℕ) (f : Frame) → o ≤ 16 → length m ≡ image_size → n ≡ bytes_stored m (96 + o) f
-    → Became m n (with_rx_bytes (core_of m) (bytes_stored (core_of m).rx o f))
+bytes_low : (b : RxBuffer) → bytes_at b ≤ 16
+bytes_low Rxb0 = omega arith
+bytes_low Rxb1 = omega arith
+
+pub frame_put : (m n : List ℕ) (b : RxBuffer) (f : Frame) → length m ≡ image_size → n ≡ bytes_stored m (96 + bytes_at b) f
+    → Became m n (with_rx_bytes (core_of m) (bytes_stored (core_of m).rx (bytes_at b) f))
 unfolding bytes_stored
-frame_put m n o f h e p =
-    rw p (filled-rx (headed-rx (unchanged m e) o h f) o h f 8 (omega arith))
+frame_put m n b f e p =
+    let low = bytes_low b in
+    rw p (filled-rx (headed-rx (unchanged m e) (bytes_at b) low f) (bytes_at b) low f 8 (omega arith))

@@ -1,5 +1,6 @@
--- How the code tells an answer and a set: the set only where it is asked for, and both as one number. No rule is said here.
-use Rattle.std.specs.Prelude.{ℕ, ◌/◌, ◌%◌, Bool, cond}
+-- How the code tells an answer and a set: the set only where it is asked for. No rule is said here.
+use Rattle.std.specs.Prelude.{ℕ, Bool, cond}
+use Rattle.records.specs.declared.Answer.{Answer}
 use Rattle.receiving.specs.declared.MatchAnswer.{MatchAnswer}
 use Rattle.receiving.specs.Receiving.{reception_number, Received}
 
@@ -22,6 +23,6 @@ answer_set_to wanted x = record { answer = reception_number x.answer; matched = 
 abbrev pub plain_answer : ℕ → AnswerSet
 plain_answer n = record { answer = n; matched = 0 }
 
--- both as one number, the set in the high byte
-abbrev pub answer_set_in : ℕ → AnswerSet
-answer_set_in x = record { answer = x % 256; matched = x / 256 }
+-- .. as the code tells it
+abbrev pub answer_set_in : Answer → AnswerSet
+answer_set_in x = record { answer = x.byte; matched = x.matched }

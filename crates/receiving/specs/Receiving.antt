@@ -1,5 +1,5 @@
 -- Receiving: a frame's register bytes, which filter matches, which buffer takes the frame, what is stored and what is lost.
-use Rattle.std.specs.Prelude.{ℕ, zero, suc, ◌+◌, ◌-◌, ◌*◌, ◌/◌, ◌%◌, ◌^◌, ◌<◌, Bool, true, false, cond, not, ◌&&◌, ◌||◌, List, [], ◌∷◌, ◌≡◌, eqb, ltb, get_or, set}
+use Rattle.std.specs.Prelude.{ℕ, zero, suc, ◌+◌, ◌-◌, ◌*◌, ◌/◌, ◌%◌, ◌^◌, ◌<◌, Bool, true, false, cond, not, ◌&&◌, ◌||◌, List, [], ◌∷◌, ◌≡◌, eqb, ltb, get_or, set, Option, Some, None}
 use Rattle.std.specs.Int.Bits.{bit_and, bit_or}
 use Rattle.bits.specs.Bit.{has_bit, set_bit, merged, same_as, agrees, for_below}
 use Rattle.records.specs.declared.Frame.{Frame}
@@ -9,13 +9,11 @@ use Rattle.registers.specs.declared.RxBuffer.TheVariants.{Rxb0, Rxb1}
 use Rattle.registers.specs.declared.RxControl.{RxControl}
 use Rattle.registers.specs.declared.Control.{Control}
 use Rattle.registers.specs.declared.Core.{Core}
-use Rattle.registers.specs.State.{rx0if_bit, rx1if_bit, errif_bit, exide_bit, bukt_bit, rx_flag, with_rx, with_canintf, with_eflg}
+use Rattle.registers.specs.State.{rx1if_bit, errif_bit, exide_bit, bukt_bit, rx_flag, with_rx, with_canintf, with_eflg}
 use Rattle.registers.specs.Registers.{rx_control}
 use Rattle.registers.specs.State.{updated}
-use Rattle.receiving.specs.declared.Hit.{Hit}
-use Rattle.receiving.specs.declared.Hit.TheVariants.{Filter, Miss}
 use Rattle.receiving.specs.declared.Verdict.{Verdict}
-use Rattle.receiving.specs.declared.Verdict.TheVariants.{Unmatched, Stored0, Stored1, RolledOver, Lost0, Lost1}
+use Rattle.receiving.specs.declared.Verdict.TheVariants.{Unmatched, Stored, RolledOver, Lost}
 use Rattle.receiving.specs.declared.MatchAnswer.{MatchAnswer}
 use Rattle.receiving.specs.declared.Reception.{Reception}
 use Rattle.receiving.specs.declared.Reception.TheVariants.{NoMatch, InRxb0, InRxb1, Lost, NotListening, Woke}
@@ -140,21 +138,21 @@ matched_of config f = set_of (matches config f) filters
 
 -- ---- the hit
 -- the lowest-numbered of n filters from i on that matches, by a test for each
-unfoldable pub lowest_from : (ℕ → Bool) → ℕ → ℕ → Hit
-lowest_from matching i zero = Miss
-lowest_from matching i (suc n) = cond (matching i) (Filter i) (lowest_from matching (suc i) n)
+unfoldable pub lowest_from : (ℕ → Bool) → ℕ → ℕ → Option ℕ
+lowest_from matching i zero = None
+lowest_from matching i (suc n) = cond (matching i) (Some i) (lowest_from matching (suc i) n)
 
 -- at RXM 11 every frame comes in, as hit 0; at the other codes the filters decide
 abbrev pub takes_any : ℕ → Bool
 takes_any ctrl = eqb (ctrl / 32 % 4) 3
 
 -- RXB0 asks filters 0 and 1, RXB1 filters 2 to 5
-abbrev pub lowest_for : (ℕ → Bool) → RxBuffer → Hit
+abbrev pub lowest_for : (ℕ → Bool) → RxBuffer → Option ℕ
 lowest_for matching Rxb0 = lowest_from matching 0 2
 lowest_for matching Rxb1 = lowest_from matching 2 4
 
-unfoldable pub hit_for : Control → (ℕ → Bool) → RxBuffer → Hit
-hit_for c matching b = cond (takes_any (rx_control c.rx b)) (Filter 0) (lowest_for matching b)
+unfoldable pub hit_for : Control → (ℕ → Bool) → RxBuffer → Option ℕ
+hit_for c matching b = cond (takes_any (rx_control c.rx b)) (Some 0) (lowest_for matching b)
 
 -- ---- which buffer
 abbrev pub is_full : Control → RxBuffer → Bool
@@ -164,17 +162,17 @@ is_full c b = has_bit c.flags.canintf (rx_flag b)
 abbrev pub verdict0 : Control → ℕ → Verdict
 verdict0 c h =
     cond (is_full c Rxb0)
-    (cond (has_bit c.rx.rxb0 bukt_bit) (cond (is_full c Rxb1) Lost1 (RolledOver h)) Lost0)
-    (Stored0 h)
+    (cond (has_bit c.rx.rxb0 bukt_bit) (cond (is_full c Rxb1) (Lost Rxb1) (RolledOver h)) (Lost Rxb0))
+    (Stored Rxb0 h)
 
 -- RXB1 is asked about a frame just where RXB0 does not match it; if RX1IF is set the frame is lost
-abbrev pub verdict1 : Control → Hit → Verdict
-verdict1 c Miss = Unmatched
-verdict1 c (Filter h) = cond (is_full c Rxb1) Lost1 (Stored1 h)
+abbrev pub verdict1 : Control → Option ℕ → Verdict
+verdict1 c None = Unmatched
+verdict1 c (Some h) = cond (is_full c Rxb1) (Lost Rxb1) (Stored Rxb1 h)
 
-abbrev pub verdict_by : Control → Hit → Hit → Verdict
-verdict_by c (Filter h) other = verdict0 c h
-verdict_by c Miss other = verdict1 c other
+abbrev pub verdict_by : Control → Option ℕ → Option ℕ → Verdict
+verdict_by c (Some h) other = verdict0 c h
+verdict_by c None other = verdict1 c other
 
 unfoldable pub verdict_of : Control → List ℕ → Frame → Verdict
 verdict_of c config f = verdict_by c (hit_for c (matches config f) Rxb0) (hit_for c (matches config f) Rxb1)
@@ -185,22 +183,19 @@ match_of c config f = record { verdict = verdict_of c config f; matched = matche
 
 abbrev pub reception_of : Verdict → Reception
 reception_of Unmatched = NoMatch
-reception_of (Stored0 h) = InRxb0
-reception_of (Stored1 h) = InRxb1
+reception_of (Stored Rxb0 h) = InRxb0
+reception_of (Stored Rxb1 h) = InRxb1
 reception_of (RolledOver h) = InRxb1
-reception_of Lost0 = Lost
-reception_of Lost1 = Lost
+reception_of (Lost b) = Lost
 
 -- ---- storing
 -- RXRTR is bit 3; the hit is bit 0 of RXB0CTRL and bits 2-0 of RXB1CTRL
 abbrev pub hit_bits : ℕ → Bool → ℕ
 hit_bits h remote = bit_or h (cond remote 0x08 0)
 
-abbrev pub rx_stored0 : RxControl → ℕ → Bool → RxControl
-rx_stored0 r h remote = record { rxb0 = merged 0x09 r.rxb0 (hit_bits h remote); rxb1 = r.rxb1 }
-
-abbrev pub rx_stored1 : RxControl → ℕ → Bool → RxControl
-rx_stored1 r h remote = record { rxb0 = r.rxb0; rxb1 = merged 0x0F r.rxb1 (hit_bits h remote) }
+abbrev pub hit_stored : RxControl → RxBuffer → ℕ → Bool → RxControl
+hit_stored r Rxb0 h remote = record { rxb0 = merged 0x09 r.rxb0 (hit_bits h remote); rxb1 = r.rxb1 }
+hit_stored r Rxb1 h remote = record { rxb0 = r.rxb0; rxb1 = merged 0x0F r.rxb1 (hit_bits h remote) }
 
 -- a rolled frame shows its RXB0 hit in RXB1CTRL, and in bit 0 of RXB0CTRL as well
 abbrev pub rx_rolled : RxControl → ℕ → Bool → RxControl
@@ -216,18 +211,25 @@ rx0ovr_bit = 6
 abbrev pub rx1ovr_bit : ℕ
 rx1ovr_bit = 7
 
+abbrev pub overflow_bit : RxBuffer → ℕ
+overflow_bit Rxb0 = rx0ovr_bit
+overflow_bit Rxb1 = rx1ovr_bit
+
 abbrev pub lost_at : Control → ℕ → Control
 lost_at c overflow = with_eflg (with_canintf c (set_bit c.flags.canintf errif_bit)) (set_bit c.flags.eflg overflow)
 
 abbrev pub control_after : Verdict → Control → Bool → Control
 control_after Unmatched c remote = c
-control_after (Stored0 h) c remote = flagged c (rx_stored0 c.rx h remote) rx0if_bit
-control_after (Stored1 h) c remote = flagged c (rx_stored1 c.rx h remote) rx1if_bit
+control_after (Stored b h) c remote = flagged c (hit_stored c.rx b h remote) (rx_flag b)
 control_after (RolledOver h) c remote = flagged c (rx_rolled c.rx h remote) rx1if_bit
-control_after Lost0 c remote = lost_at c rx0ovr_bit
-control_after Lost1 c remote = lost_at c rx1ovr_bit
+control_after (Lost b) c remote = lost_at c (overflow_bit b)
 
--- the bytes of RXB0 lie from 0 on and those of RXB1 from 16 on, behind a control byte; data bytes that the frame does not carry stay as they were
+-- the bytes of RXB0 lie from 0 on and those of RXB1 from 16 on, behind a control byte
+abbrev pub bytes_at : RxBuffer → ℕ
+bytes_at Rxb0 = 0
+bytes_at Rxb1 = 16
+
+-- data bytes that the frame does not carry stay as they were
 abbrev pub filled : List ℕ → ℕ → Frame → ℕ → List ℕ
 filled rx at f zero = rx
 filled rx at f (suc j) = updated (filled rx at f j) (at + 6 + j) (λ old. cond (ltb j (carried_by f)) (get_or f.bytes j 0) old)
@@ -249,11 +251,9 @@ bytes_stored rx at f = filled (headed rx at f) at f 8
 
 abbrev pub bytes_after : Verdict → List ℕ → Frame → List ℕ
 bytes_after Unmatched rx f = rx
-bytes_after (Stored0 h) rx f = bytes_stored rx 0 f
-bytes_after (Stored1 h) rx f = bytes_stored rx 16 f
-bytes_after (RolledOver h) rx f = bytes_stored rx 16 f
-bytes_after Lost0 rx f = rx
-bytes_after Lost1 rx f = rx
+bytes_after (Stored b h) rx f = bytes_stored rx (bytes_at b) f
+bytes_after (RolledOver h) rx f = bytes_stored rx (bytes_at Rxb1) f
+bytes_after (Lost b) rx f = rx
 
 -- ---- the receive rules whole: the core after them, the answer and the set
 pub record Received : Type 0 where
@@ -281,15 +281,15 @@ abbrev pub share_of : RxBuffer → ℕ → ℕ
 share_of Rxb0 s = bit_and s 0x03
 share_of Rxb1 s = bit_and s 0x3C
 
-abbrev pub is_miss : Hit → Bool
-is_miss (Filter h) = false
-is_miss Miss = true
+abbrev pub is_miss : Option ℕ → Bool
+is_miss (Some h) = false
+is_miss None = true
 
 -- unless RXM is 11, the hit that a buffer gives when asked is a bit of its share, the share has no lower one, and the buffer gives
 -- none just if the share is empty
 pub record HitInSet (c : Control) (config : List ℕ) (f : Frame) (b : RxBuffer) : Type 0 where
-  pub bit : (h : ℕ) → hit_for c (matches config f) b ≡ Filter h → has_bit (share_of b (matched_of config f)) h ≡ true
-  pub lowest : (h : ℕ) → hit_for c (matches config f) b ≡ Filter h → share_of b (matched_of config f) % 2 ^ h ≡ 0
+  pub bit : (h : ℕ) → hit_for c (matches config f) b ≡ Some h → has_bit (share_of b (matched_of config f)) h ≡ true
+  pub lowest : (h : ℕ) → hit_for c (matches config f) b ≡ Some h → share_of b (matched_of config f) % 2 ^ h ≡ 0
   pub none : is_miss (hit_for c (matches config f) b) ≡ eqb (share_of b (matched_of config f)) 0
 
 abbrev pub HitIsLowest : Type 0

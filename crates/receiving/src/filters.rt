@@ -1,8 +1,8 @@
 // The look over a buffer's filters, and the set of all that match.
-ghost use Rattle.std.specs.Prelude.{◌≡◌, ◌-◌, ◌<◌, ◌≤◌, [], ◌∷◌, length, take};
+ghost use Rattle.std.specs.Prelude.{◌≡◌, ◌-◌, ◌<◌, ◌≤◌, [], ◌∷◌, take};
 ghost use Rattle.bits.specs.Bit.{word_of};
 ghost use Rattle.registers.specs.Registers.{rx_control};
-ghost use Rattle.image.specs.Image.{image_size, control_of};
+ghost use Rattle.image.specs.Image.{control_of};
 ghost use Rattle.receiving.specs.Words.{word_at, word_matches};
 ghost use Rattle.receiving.specs.Receiving.{
   mask_at,
@@ -15,8 +15,8 @@ ghost use Rattle.receiving.specs.Receiving.{
 };
 ghost use Rattle.receiving.specs.AnswerSets.{wanted_set};
 
-use crate::{Hit, Key};
-use image::{RXB0CTRL, RXB1CTRL};
+use crate::Key;
+use image::{Image, RXB0CTRL, RXB1CTRL};
 use registers::RxBuffer;
 
 // Filters 0 to 5.
@@ -35,18 +35,19 @@ fn mask_at(filter: u8) -> usize
 pub fn word(a: u8, b: u8, c: u8, d: u8) -> u32
     ensures { result ≡ word_of (a ∷ b ∷ c ∷ d ∷ []) }
 {
-    records::joined(d, c, b, a)
+    u32::from_le_bytes([a, b, c, d])
 }
 
-fn word_at(image: &[u8], at: usize) -> u32
-    requires { (length image.now ≡ image_size) × (at ≤ 36) }
+fn word_at(image: &Image, at: usize) -> u32
+    requires { at ≤ 36 }
     ensures { result ≡ word_at image.now at }
 {
     word(image[at], image[at + 1], image[at + 2], image[at + 3])
 }
 
-fn is_match(image: &[u8], key: Key, filter: u8) -> bool
-    requires { (length image.now ≡ image_size) × (filter < filters) }
+#[tactic(auto, unfolding(crate::specs::Words::word_matches))]
+fn is_match(image: &Image, key: Key, filter: u8) -> bool
+    requires { filter < filters }
     ensures { result ≡ word_matches image.now key filter }
 {
     let at = (filter / 3 * 16 + filter % 3 * 4) as usize;
@@ -55,46 +56,43 @@ fn is_match(image: &[u8], key: Key, filter: u8) -> bool
 }
 
 // Every filter that matches, bit n for filter n.
-fn matched_by(image: &[u8], key: Key) -> u8
-    requires { length image.now ≡ image_size }
+#[tactic(auto, using(crate::proofs::Sets::set_next), unfolding(crate::specs::Receiving::set_of))]
+fn matched_by(image: &Image, key: Key) -> u8
     ensures { result ≡ set_of (word_matches image.now key) filters }
 {
-    let mut set: u8 = 0;
-    let mut filter: u8 = 0;
-    while filter < FILTERS {
+    let mut set = 0;
+    for filter in 0..FILTERS {
         set = bits::choose(is_match(image, key, filter), bits::set(set, filter), set);
-        filter += 1;
     }
     set
 }
 
 // The set where it is asked for; else it is not worked out.
-pub fn set_if(wanted: bool, image: &[u8], key: Key) -> u8
-    requires { length image.now ≡ image_size }
+#[tactic(auto, using(crate::proofs::Sets::set_take))]
+pub fn set_if(wanted: bool, image: &Image, key: Key) -> u8
     ensures { result ≡ wanted_set wanted (set_of (word_matches (take 48 image.now) key) filters) }
 {
     if wanted { matched_by(image, key) } else { 0 }
 }
 
-// The look over filters first to end - 1: the first that matches is the answer.
-fn lowest(image: &[u8], key: Key, first: u8, end: u8) -> Hit
-    requires { (length image.now ≡ image_size) × (first ≤ end) × (end ≤ filters) }
+// The look over filters first to end - 1: the first that matches is the answer. The rules want a loop that yields it by `break`.
+#[tactic(auto, using(crate::proofs::Look::skipped, crate::proofs::Look::found, crate::proofs::Look::ended))]
+fn lowest(image: &Image, key: Key, first: u8, end: u8) -> Option<u8>
+    requires { (first ≤ end) × (end ≤ filters) }
     ensures { result ≡ lowest_from (word_matches image.now key) first (end - first) }
 {
-    let mut filter = first;
-    loop {
-        if filter == end {
-            break Hit::Miss;
+    'look: {
+        for filter in first..end {
+            if is_match(image, key, filter) {
+                break 'look Some(filter);
+            }
         }
-        if is_match(image, key, filter) {
-            break Hit::Filter(filter);
-        }
-        filter += 1;
+        None
     }
 }
 
-fn lowest_for(image: &[u8], key: Key, buffer: RxBuffer) -> Hit
-    requires { length image.now ≡ image_size }
+#[tactic(auto, using(crate::proofs::Look::lowest_take))]
+fn lowest_for(image: &Image, key: Key, buffer: RxBuffer) -> Option<u8>
     ensures { result ≡ lowest_for (word_matches (take 48 image.now) key) buffer }
 {
     match buffer {
@@ -103,8 +101,8 @@ fn lowest_for(image: &[u8], key: Key, buffer: RxBuffer) -> Hit
     }
 }
 
-fn rx_control(image: &[u8], buffer: RxBuffer) -> u8
-    requires { length image.now ≡ image_size }
+#[tactic(auto, unfolding(image::specs::Image::decoded))]
+fn rx_control(image: &Image, buffer: RxBuffer) -> u8
     ensures { result ≡ rx_control (control_of image.now).rx buffer }
 {
     match buffer {
@@ -120,12 +118,12 @@ fn takes_any(ctrl: u8) -> bool
     ctrl / 32 % 4 == 3
 }
 
-pub fn hit_for(image: &[u8], key: Key, buffer: RxBuffer) -> Hit
-    requires { length image.now ≡ image_size }
+#[tactic(auto, unfolding(crate::specs::Receiving::hit_for))]
+pub fn hit_for(image: &Image, key: Key, buffer: RxBuffer) -> Option<u8>
     ensures { result ≡ hit_for (control_of image.now) (word_matches (take 48 image.now) key) buffer }
 {
     if takes_any(rx_control(image, buffer)) {
-        return Hit::Filter(0);
+        return Some(0);
     }
     lowest_for(image, key, buffer)
 }

@@ -1,7 +1,7 @@
 // A frame as register bytes.
-ghost use Rattle.std.specs.Prelude.{◌≡◌, true, false, cond, ℕ, ◌+◌, ◌*◌, ◌%◌, ◌≤◌, ◌<◌, ltb, length};
+ghost use Rattle.std.specs.Prelude.{◌≡◌, true, false, cond, ℕ, ◌+◌, ◌*◌, ◌%◌, ◌≤◌, ◌<◌, ltb};
 ghost use Rattle.registers.specs.State.{with_rx_bytes};
-ghost use Rattle.image.specs.Image.{image_size, core_of, Became};
+ghost use Rattle.image.specs.Image.{core_of, Became};
 ghost use Rattle.receiving.specs.Words.{key_of};
 ghost use Rattle.receiving.specs.Receiving.{
   sidh_of,
@@ -12,28 +12,35 @@ ghost use Rattle.receiving.specs.Receiving.{
   carried_by,
   filled,
   headed,
+  bytes_at,
   bytes_stored,
   bytes_after,
 };
 
 use crate::filters::word;
 use crate::{Key, Verdict};
+use image::Image;
 use records::Frame;
-use registers::RTR;
+use registers::{RTR, RxBuffer};
 
-// Where the bytes of RXB0 and RXB1 lie, behind their control bytes.
-const RXB0: usize = 96;
-
-const RXB1: usize = 112;
+// Where the bytes of a buffer lie, behind its control byte.
+fn bytes_of(buffer: RxBuffer) -> usize
+    ensures { result ≡ 96 + bytes_at buffer }
+{
+    match buffer {
+        RxBuffer::Rxb0 => 96,
+        RxBuffer::Rxb1 => 112,
+    }
+}
 
 fn sidh(frame: Frame) -> u8
     ensures { result ≡ sidh_of frame }
 {
     let identifier = frame.identifier;
     if frame.extended {
-        (identifier / 2097152 % 256) as u8
+        ((identifier >> 21) % 256) as u8
     } else {
-        (identifier / 8 % 256) as u8
+        ((identifier >> 3) % 256) as u8
     }
 }
 
@@ -52,7 +59,7 @@ fn sidl(frame: Frame) -> u8
 {
     let identifier = frame.identifier;
     if frame.extended {
-        (identifier / 262144 % 8 * 32 + 8 + identifier / 65536 % 4) as u8
+        ((identifier >> 18) % 8 * 32 + 8 + (identifier >> 16) % 4) as u8
     } else {
         sidl_standard(identifier, frame.remote)
     }
@@ -63,7 +70,7 @@ fn eid8(frame: Frame) -> u8
 {
     let identifier = frame.identifier;
     if frame.extended {
-        (identifier / 256 % 256) as u8
+        ((identifier >> 8) % 256) as u8
     } else {
         0
     }
@@ -132,8 +139,8 @@ pub fn key_of(frame: Frame) -> Key
 }
 
 // The identifier bytes and DLC of the buffer at `at`.
-fn head(image: &mut [u8], at: usize, frame: Frame)
-    requires { (length image.old ≡ image_size) × (at ≤ 112) }
+fn head(image: &mut Image, at: usize, frame: Frame)
+    requires { at ≤ 112 }
     ensures { image.new ≡ headed image.old at frame }
 {
     image[at + 1] = sidh(frame);
@@ -143,24 +150,22 @@ fn head(image: &mut [u8], at: usize, frame: Frame)
     image[at + 5] = dlc(frame);
 }
 
-// The data bytes that the frame carries go behind them.
-fn fill(image: &mut [u8], at: usize, frame: Frame)
-    requires { (length image.old ≡ image_size) × (at ≤ 112) }
+// The data bytes that the frame carries go behind them. Their number is a byte, as the code is: so all eight are chosen at
+// once, and not one by one.
+fn fill(image: &mut Image, at: usize, frame: Frame)
+    requires { at ≤ 112 }
     ensures { image.new ≡ filled image.old at frame 8 }
 {
     let end = data_end(frame);
-    let mut j: u8 = 0;
-    while j < 8 {
-        let i = at + 6 + (j as usize);
-        let byte = frame.bytes[j as usize];
-        let old = image[i];
-        image[i] = bits::choose(j < end, byte, old);
-        j += 1;
+    for j in 0..8 {
+        let i = at + 6 + usize::from(j);
+        image[i] = bits::choose(j < end, frame.bytes[usize::from(j)], image[i]);
     }
 }
 
-fn put(image: &mut [u8], at: usize, frame: Frame)
-    requires { (length image.old ≡ image_size) × (at ≤ 112) }
+#[tactic(auto, unfolding(crate::specs::Receiving::bytes_stored))]
+fn put(image: &mut Image, at: usize, frame: Frame)
+    requires { at ≤ 112 }
     ensures { image.new ≡ bytes_stored image.old at frame }
 {
     head(image, at, frame);
@@ -168,16 +173,13 @@ fn put(image: &mut [u8], at: usize, frame: Frame)
 }
 
 // The bytes of a frame, where its verdict stores it.
-pub fn put_by(image: &mut [u8], verdict: Verdict, frame: Frame)
-    requires { length image.old ≡ image_size }
+#[tactic(auto, using(crate::proofs::Stored::frame_put, crate::proofs::Stored::unchanged))]
+pub fn put_by(image: &mut Image, verdict: Verdict, frame: Frame)
     ensures { Became image.old image.new (with_rx_bytes (core_of image.old) (bytes_after verdict (core_of image.old).rx frame)) }
 {
     match verdict {
-        Verdict::Unmatched => {}
-        Verdict::Stored0(_) => put(image, RXB0, frame),
-        Verdict::Stored1(_) => put(image, RXB1, frame),
-        Verdict::RolledOver(_) => put(image, RXB1, frame),
-        Verdict::Lost0 => {}
-        Verdict::Lost1 => {}
+        Verdict::Unmatched | Verdict::Lost(_) => {}
+        Verdict::Stored(buffer, _) => put(image, bytes_of(buffer), frame),
+        Verdict::RolledOver(_) => put(image, bytes_of(RxBuffer::Rxb1), frame),
     }
 }

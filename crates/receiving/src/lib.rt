@@ -3,9 +3,12 @@
 
 mod filters;
 mod frames;
-mod verdicts;
+mod slices;
+pub mod verdicts;
 
-pub use verdicts::{receive, unheard};
+use registers::RxBuffer;
+pub use slices::receive;
+pub use verdicts::unheard;
 
 // What the filters are held against: a frame's four bytes as one word, and the bits of it that a mask can make count.
 #[derive(Clone, Copy)]
@@ -14,22 +17,13 @@ pub struct Key {
     pub reach: u32,
 }
 
-// The filter that matched.
-#[derive(Clone, Copy)]
-pub enum Hit {
-    Filter(u8),
-    Miss,
-}
-
-// What becomes of a frame that is heard.
-#[derive(Clone, Copy)]
+// What becomes of a frame that is heard; where it is stored, with the number of the filter that matched.
+#[derive(Clone, Copy, Debug, PartialEq, Eq)]
 pub enum Verdict {
     Unmatched,
-    Stored0(u8),
-    Stored1(u8),
+    Stored(RxBuffer, u8),
     RolledOver(u8),
-    Lost0,
-    Lost1,
+    Lost(RxBuffer),
 }
 
 // The match answer: what becomes of the frame, with the hit where it is stored, and the filters that match, bit n for
@@ -41,12 +35,12 @@ pub struct MatchAnswer {
 }
 
 // The answer to a frame.
-#[derive(Clone, Copy)]
+#[derive(Clone, Copy, Debug, PartialEq, Eq)]
 pub enum Reception {
-    NoMatch,
-    InRxb0,
-    InRxb1,
-    Lost,
-    NotListening,
-    Woke,
+    NoMatch = 0,
+    InRxb0 = 1,
+    InRxb1 = 2,
+    Lost = 3,
+    NotListening = 4,
+    Woke = 5,
 }

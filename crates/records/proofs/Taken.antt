@@ -1,6 +1,7 @@
 -- A record taken apart and put together: 16 bytes of a list, and the bytes of a number. Assumes nothing.
 use mathlib.Core.Path.{◌≡◌, refl, ap, sym}
 use mathlib.Core.Bool.{Bool, true, false, cond, ◌&&◌, ◌||◌, and_assoc, and_comm, and-true}
+use Rattle.std.specs.Prelude.{Some}
 use mathlib.Core.List.{List, [], ◌∷◌}
 use Prim.Native.Nat.{ℕ, zero, suc, ◌+◌, ◌-◌, ◌*◌, ◌/◌, ◌%◌, ◌^◌, ◌≤◌, ◌<◌, max}
 use native.Mathlib.Nat.{add-zero, add-suc, pow-suc, one-le-pow, pow-le-pow_right, div-one, div-eq_of_lt, div-div-eq-div-mul, div-lt_iff_lt-mul, le-max_right, max-zero, lt_of_lt_of_le}
@@ -8,7 +9,9 @@ use native.Mathlib.Omega.{arith}
 use lib.ListN.{length, take, drop, get_or}
 use lib.Seq.{drop-cons}
 use lib.Dec.{eqb, ltb, leb}
-use Rattle.records.specs.Records.{data_bytes, carried}
+use Rattle.records.specs.declared.Kind.{Kind}
+use Rattle.records.specs.declared.Kind.TheVariants.{SelectLow, Exchange, SelectHigh, FrameHeard, BusIdle, FrameEnds, ReceiveError, Recovery, PinLevel}
+use Rattle.records.specs.Records.{data_bytes, carried, sound_plain, sound_by}
 use borrow.Author.Tests.{eq-eqb, ne_eqb, eqb-true, eqb-false, leb-true, leb-false, ltb-true, ltb-false}
 
 -- n elements of a list, the first at + k
@@ -108,3 +111,15 @@ module _ (x : ℕ) (h : x < 256 ^ 4) where
 
   pub four : x / 0x1000000 % 256 * 0x1000000 + x / 0x10000 % 256 * 0x10000 + x / 0x100 % 256 * 0x100 + x % 256 ≡ x
   four = omega (arith, top, div-div-eq-div-mul x 256 256, div-div-eq-div-mul x 0x10000 256)
+
+-- any kind but that of a frame has no more than two fields
+pub two_fields : (k : Kind) (r : List ℕ) → (k ≡ FrameHeard → ⊥) → sound_plain k r ≡ sound_by (Some k) r
+two_fields SelectLow r n = refl
+two_fields Exchange r n = refl
+two_fields SelectHigh r n = refl
+two_fields FrameHeard r n = absurd (n refl)
+two_fields BusIdle r n = refl
+two_fields FrameEnds r n = refl
+two_fields ReceiveError r n = refl
+two_fields Recovery r n = refl
+two_fields PinLevel r n = refl

@@ -1,9 +1,12 @@
 -- Calls, records and answers: the record of 16 bytes, its kind, its fields, and what refusal 2 names.
-use Rattle.std.specs.Prelude.{ℕ, zero, suc, ◌+◌, ◌*◌, ◌/◌, ◌%◌, min, Bool, true, false, cond, ◌&&◌, ◌||◌, ◌≡◌, List, [], ◌∷◌, eqb, ltb, leb, get_or}
+use Rattle.std.specs.Prelude.{ℕ, zero, suc, ◌+◌, ◌*◌, ◌/◌, ◌%◌, min, Bool, true, false, cond, ◌&&◌, ◌||◌, ◌≡◌, List, [], ◌∷◌, eqb, ltb, leb, get_or, Option, Some, None, Result, Ok, Err}
 use Rattle.bits.specs.Bit.{has_bit}
 use Rattle.records.specs.declared.Kind.{Kind}
+use Rattle.records.specs.declared.Kind.TheVariants.{SelectLow, Exchange, SelectHigh, FrameHeard, BusIdle, FrameEnds, ReceiveError, Recovery, PinLevel}
+use Rattle.records.specs.declared.Refusal.{Refusal}
+use Rattle.records.specs.declared.Refusal.TheVariants.{Select, Field, InFlight, NoFlight, State, Length, Room, Count, Profile, Mode, Oscillator, Rate, Speaker, Short, Chip}
+use Rattle.records.specs.declared.Answer.{Answer}
 use Rattle.records.specs.declared.Outcome.{Outcome}
-use Rattle.records.specs.declared.Kind.TheVariants.{SelectLow, Exchange, SelectHigh, FrameHeard, BusIdle, FrameEnds, ReceiveError, Recovery, PinLevel, Unknown}
 use Rattle.records.specs.declared.Frame.{Frame}
 use Rattle.records.specs.declared.Fields.{Fields}
 
@@ -29,42 +32,81 @@ refused_state = 5
 abbrev pub refused_speaker : ℕ
 refused_speaker = 18
 
+-- every refusal has a number
+abbrev pub refusal_number : Refusal → ℕ
+refusal_number Select = refused_select
+refusal_number Field = refused_field
+refusal_number InFlight = refused_in_flight
+refusal_number NoFlight = refused_no_flight
+refusal_number State = refused_state
+refusal_number Length = 6
+refusal_number Room = 7
+refusal_number Count = 8
+refusal_number Profile = 10
+refusal_number Mode = 11
+refusal_number Oscillator = 12
+refusal_number Rate = 13
+refusal_number Speaker = refused_speaker
+refusal_number Short = 19
+refusal_number Chip = 21
+
+-- the number that a Result tells
+abbrev pub refusal_in : {A : Type 0} → Result A Refusal → ℕ
+refusal_in (Ok a) = accepted
+refusal_in (Err e) = refusal_number e
+
 -- what is told of a refused record: its refusal, the answer 0 and an empty set
 abbrev pub refused_outcome : ℕ → Outcome
 refused_outcome n = record { refusal = n; answer = 0; matched = 0 }
+
+-- what is told of a step
+abbrev pub outcome_of : Result Answer Refusal → Outcome
+outcome_of (Ok a) = record { refusal = accepted; answer = a.byte; matched = a.matched }
+outcome_of (Err e) = refused_outcome (refusal_number e)
+
+abbrev pub Tells : Result Answer Refusal → Outcome → Type 0
+Tells x o = o ≡ outcome_of x
 
 -- Byte i of a record.
 abbrev pub byte_at : List ℕ → ℕ → ℕ
 byte_at r i = get_or r i 0
 
 -- The kind stands in byte 0.
-abbrev pub kind_by : ℕ → Kind
+abbrev pub kind_by : ℕ → Option Kind
 kind_by b =
-    cond (eqb b 0) SelectLow
-    (cond (eqb b 1) Exchange
-    (cond (eqb b 2) SelectHigh
-    (cond (eqb b 3) FrameHeard
-    (cond (eqb b 4) BusIdle
-    (cond (eqb b 5) FrameEnds
-    (cond (eqb b 6) ReceiveError
-    (cond (eqb b 7) Recovery
-    (cond (eqb b 8) PinLevel Unknown))))))))
+    cond (eqb b 0) (Some SelectLow)
+    (cond (eqb b 1) (Some Exchange)
+    (cond (eqb b 2) (Some SelectHigh)
+    (cond (eqb b 3) (Some FrameHeard)
+    (cond (eqb b 4) (Some BusIdle)
+    (cond (eqb b 5) (Some FrameEnds)
+    (cond (eqb b 6) (Some ReceiveError)
+    (cond (eqb b 7) (Some Recovery)
+    (cond (eqb b 8) (Some PinLevel) None))))))))
 
-unfoldable pub kind_of : List ℕ → Kind
+unfoldable pub kind_of : List ℕ → Option Kind
 kind_of r = kind_by (byte_at r 0)
 
+-- a number that is no kind is refused as a field
+abbrev pub kind_or_refusal : Option Kind → Result Kind Refusal
+kind_or_refusal (Some k) = Ok k
+kind_or_refusal None = Err Field
+
+abbrev pub KindOrRefusal : ℕ → Result Kind Refusal → Type 0
+KindOrRefusal n r = r ≡ kind_or_refusal (kind_by n)
+
 -- Events are kinds 3 to 8.
-abbrev pub is_event : Kind → Bool
-is_event SelectLow = false
-is_event Exchange = false
-is_event SelectHigh = false
-is_event FrameHeard = true
-is_event BusIdle = true
-is_event FrameEnds = true
-is_event ReceiveError = true
-is_event Recovery = true
-is_event PinLevel = true
-is_event Unknown = false
+abbrev pub is_event : Option Kind → Bool
+is_event (Some SelectLow) = false
+is_event (Some Exchange) = false
+is_event (Some SelectHigh) = false
+is_event (Some FrameHeard) = true
+is_event (Some BusIdle) = true
+is_event (Some FrameEnds) = true
+is_event (Some ReceiveError) = true
+is_event (Some Recovery) = true
+is_event (Some PinLevel) = true
+is_event None = false
 
 -- a law that the proofs show: by their numbers, events are the kinds from 3 to 8 and no other
 abbrev pub EventNumbers : Type 0
@@ -90,7 +132,6 @@ largest_field FrameEnds = 2
 largest_field ReceiveError = 1
 largest_field Recovery = 0
 largest_field PinLevel = 2
-largest_field Unknown = 0
 
 -- ---- and byte 2 up to this. In kinds 0 to 2 it is who speaks, 0 the controller and 1 the panel; in kind 8, where byte 1 is n of TXnRTS,
 -- it is the level, 0 low and 1 high
@@ -104,7 +145,6 @@ largest_second FrameEnds = 0
 largest_second ReceiveError = 0
 largest_second Recovery = 0
 largest_second PinLevel = 1
-largest_second Unknown = 0
 
 -- ---- kind 3: a frame
 -- bytes 4 to 7 are the identifier, high byte first
@@ -149,17 +189,17 @@ sound_frame r =
 abbrev pub sound_plain : Kind → List ℕ → Bool
 sound_plain k r = leb (byte_at r 1) (largest_field k) && leb (byte_at r 2) (largest_second k) && zeros r 3 13
 
-abbrev pub sound_by : Kind → List ℕ → Bool
-sound_by SelectLow r = sound_plain SelectLow r
-sound_by Exchange r = sound_plain Exchange r
-sound_by SelectHigh r = sound_plain SelectHigh r
-sound_by FrameHeard r = sound_frame r
-sound_by BusIdle r = sound_plain BusIdle r
-sound_by FrameEnds r = sound_plain FrameEnds r
-sound_by ReceiveError r = sound_plain ReceiveError r
-sound_by Recovery r = sound_plain Recovery r
-sound_by PinLevel r = sound_plain PinLevel r
-sound_by Unknown r = false
+abbrev pub sound_by : Option Kind → List ℕ → Bool
+sound_by (Some SelectLow) r = sound_plain SelectLow r
+sound_by (Some Exchange) r = sound_plain Exchange r
+sound_by (Some SelectHigh) r = sound_plain SelectHigh r
+sound_by (Some FrameHeard) r = sound_frame r
+sound_by (Some BusIdle) r = sound_plain BusIdle r
+sound_by (Some FrameEnds) r = sound_plain FrameEnds r
+sound_by (Some ReceiveError) r = sound_plain ReceiveError r
+sound_by (Some Recovery) r = sound_plain Recovery r
+sound_by (Some PinLevel) r = sound_plain PinLevel r
+sound_by None r = false
 
 -- Not named by refusal 2: a known kind, fields in their ranges, every other byte 0.
 unfoldable pub sound_of : List ℕ → Bool

@@ -5,6 +5,9 @@ ghost use Rattle.std.specs.Prelude.{◌≡◌, [], ◌∷◌, ◌+◌, ◌*◌, 
 ghost use Rattle.records.specs.Records.{
   refused_outcome,
   kind_by,
+  KindOrRefusal,
+  refusal_number,
+  Tells,
   zeros,
   frame_of,
   data_bytes,
@@ -19,18 +22,37 @@ ghost use Rattle.records.specs.Records.{
   record_of,
 };
 
-#[derive(Clone, Copy)]
+#[derive(Clone, Copy, Debug, PartialEq, Eq)]
 pub enum Kind {
-    SelectLow,
-    Exchange,
-    SelectHigh,
-    FrameHeard,
-    BusIdle,
-    FrameEnds,
-    ReceiveError,
-    Recovery,
-    PinLevel,
-    Unknown,
+    SelectLow = 0,
+    Exchange = 1,
+    SelectHigh = 2,
+    FrameHeard = 3,
+    BusIdle = 4,
+    FrameEnds = 5,
+    ReceiveError = 6,
+    Recovery = 7,
+    PinLevel = 8,
+}
+
+// Why something is refused: a record or a log, a profile to load, a bit timing or the bytes of a chip.
+#[derive(Clone, Copy, Debug, PartialEq, Eq)]
+pub enum Refusal {
+    Select = 1,
+    Field = 2,
+    InFlight = 3,
+    NoFlight = 4,
+    State = 5,
+    Length = 6,
+    Room = 7,
+    Count = 8,
+    Profile = 10,
+    Mode = 11,
+    Oscillator = 12,
+    Rate = 13,
+    Speaker = 18,
+    Short = 19,
+    Chip = 21,
 }
 
 // A frame on the bus; `code` is its data length code. Of `bytes` only the first bytes count, as many as it carries.
@@ -54,45 +76,72 @@ pub struct Fields {
     pub data: u64,
 }
 
-// What a step tells of a record: its refusal, 0 for none, its answer, and the filters that match its frame, bit n for filter n.
-#[derive(Clone, Copy)]
+// What an accepted record is answered: a byte, and the filters that match its frame, bit n for filter n.
+#[derive(Clone, Copy, Debug, PartialEq, Eq)]
+pub struct Answer {
+    pub byte: u8,
+    pub matched: u8,
+}
+
+// The same as the bytes of an answer say it: the refusal comes first, 0 for none.
+#[derive(Clone, Copy, Debug, PartialEq, Eq)]
 pub struct Outcome {
     pub refusal: u8,
     pub answer: u8,
     pub matched: u8,
 }
 
-pub const ACCEPTED: u8 = 0;
-
-pub const REFUSED_SELECT: u8 = 1;
-
-pub const REFUSED_FIELD: u8 = 2;
-
-pub const REFUSED_IN_FLIGHT: u8 = 3;
-
-pub const REFUSED_NO_FLIGHT: u8 = 4;
-
-pub const REFUSED_STATE: u8 = 5;
-
-pub const REFUSED_SPEAKER: u8 = 18;
-
 // A length code has four bits.
 const LARGEST_CODE: u8 = 15;
 
-pub fn kind_by(number: u8) -> Kind
+impl TryFrom<u8> for Kind {
+    type Error = Refusal;
+
+    ghost try_from_gives = { KindOrRefusal };
+
+    fn try_from(number: u8) -> Result<Self, Refusal> {
+        match number {
+            0 => Ok(Kind::SelectLow),
+            1 => Ok(Kind::Exchange),
+            2 => Ok(Kind::SelectHigh),
+            3 => Ok(Kind::FrameHeard),
+            4 => Ok(Kind::BusIdle),
+            5 => Ok(Kind::FrameEnds),
+            6 => Ok(Kind::ReceiveError),
+            7 => Ok(Kind::Recovery),
+            8 => Ok(Kind::PinLevel),
+            _ => Err(Refusal::Field),
+        }
+    }
+}
+
+// Beside try_from, since docs/PROMISES.md promises it by this name, as it does refused of any number and the functions of Fields below.
+pub fn kind_by(number: u8) -> Option<Kind>
     ensures { result ≡ kind_by number }
 {
-    match number {
-        0 => Kind::SelectLow,
-        1 => Kind::Exchange,
-        2 => Kind::SelectHigh,
-        3 => Kind::FrameHeard,
-        4 => Kind::BusIdle,
-        5 => Kind::FrameEnds,
-        6 => Kind::ReceiveError,
-        7 => Kind::Recovery,
-        8 => Kind::PinLevel,
-        _ => Kind::Unknown,
+    Kind::try_from(number).ok()
+}
+
+impl Refusal {
+    pub fn number(self) -> u8
+        ensures { result ≡ refusal_number self }
+    {
+        self as u8
+    }
+}
+
+impl From<Result<Answer, Refusal>> for Outcome {
+    ghost from_gives = { Tells };
+
+    fn from(told: Result<Answer, Refusal>) -> Outcome {
+        match told {
+            Ok(answer) => Outcome {
+                refusal: 0,
+                answer: answer.byte,
+                matched: answer.matched,
+            },
+            Err(refusal) => refused(refusal.number()),
+        }
     }
 }
 
@@ -111,14 +160,14 @@ pub fn refused(refusal: u8) -> Outcome
 pub fn paired(a: u8, b: u8) -> u16
     ensures { (result % 256 ≡ a) × (result / 256 ≡ b) }
 {
-    a as u16 + b as u16 * 256
+    u16::from_le_bytes([a, b])
 }
 
 // Four bytes as one number, high byte first.
 pub fn joined(a: u8, b: u8, c: u8, d: u8) -> u32
     ensures { (result / 0x1000000 % 256 ≡ a) × (result / 0x10000 % 256 ≡ b) × (result / 0x100 % 256 ≡ c) × (result % 256 ≡ d) }
 {
-    (a as u32) * 16777216 + (b as u32) * 65536 + (c as u32) * 256 + (d as u32)
+    u32::from_be_bytes([a, b, c, d])
 }
 
 // Eight bytes as one number, low byte first.
@@ -126,19 +175,12 @@ pub fn word(a: u8, b: u8, c: u8, d: u8, e: u8, f: u8, g: u8, h: u8) -> u64
     ensures low { (result % 256 ≡ a) × (result / 0x100 % 256 ≡ b) × (result / 0x10000 % 256 ≡ c) × (result / 0x1000000 % 256 ≡ d) }
     ensures high { (result / 0x100000000 % 256 ≡ e) × (result / 0x10000000000 % 256 ≡ f) × (result / 0x1000000000000 % 256 ≡ g) × (result / 0x100000000000000 % 256 ≡ h) }
 {
-    (a as u64)
-        + (b as u64) * 0x100
-        + (c as u64) * 0x10000
-        + (d as u64) * 0x1000000
-        + (e as u64) * 0x100000000
-        + (f as u64) * 0x10000000000
-        + (g as u64) * 0x1000000000000
-        + (h as u64) * 0x100000000000000
+    u64::from_le_bytes([a, b, c, d, e, f, g, h])
 }
 
 // A record taken apart.
-pub fn fields_of(record: [u8; 16]) -> Fields
-    ensures { record_of result ≡ «record» }
+pub fn fields_of(record: &[u8; 16]) -> Fields
+    ensures { record_of result ≡ «record».now }
 {
     Fields {
         kind: record[0],
@@ -157,28 +199,19 @@ pub fn fields_of(record: [u8; 16]) -> Fields
 fn split(data: u64) -> [u8; 8]
     ensures { result ≡ «data» % 256 ∷ «data» / 0x100 % 256 ∷ «data» / 0x10000 % 256 ∷ «data» / 0x1000000 % 256 ∷ «data» / 0x100000000 % 256 ∷ «data» / 0x10000000000 % 256 ∷ «data» / 0x1000000000000 % 256 ∷ «data» / 0x100000000000000 % 256 ∷ [] }
 {
-    [
-        (data % 256) as u8,
-        (data / 0x100 % 256) as u8,
-        (data / 0x10000 % 256) as u8,
-        (data / 0x1000000 % 256) as u8,
-        (data / 0x100000000 % 256) as u8,
-        (data / 0x10000000000 % 256) as u8,
-        (data / 0x1000000000000 % 256) as u8,
-        (data / 0x100000000000000 % 256) as u8,
-    ]
+    data.to_le_bytes()
 }
 
+#[tactic(auto, using(crate::proofs::Taken::four), unfolding(crate::specs::Records::frame_of, crate::specs::Records::record_of))]
 pub fn frame_of(fields: Fields) -> Frame
     ensures { result ≡ frame_of (record_of fields) }
 {
-    let data = fields.data;
     Frame {
         extended: fields.field % 2 == 1,
         remote: fields.field / 2 % 2 == 1,
         code: fields.code,
         identifier: fields.identifier,
-        bytes: split(data),
+        bytes: split(fields.data),
     }
 }
 
@@ -212,6 +245,7 @@ fn past_zero(fields: Fields, remote: bool) -> bool
     fields.data <= largest_data(bits::choose(remote, 0, fields.code))
 }
 
+#[tactic(auto, using(crate::proofs::Taken::four), unfolding(crate::specs::Records::record_of))]
 fn is_sound_frame(fields: Fields) -> bool
     ensures { result ≡ sound_frame (record_of fields) }
 {
@@ -228,16 +262,12 @@ fn largest_field(kind: Kind) -> u8
     ensures { result ≡ largest_field kind }
 {
     match kind {
-        Kind::SelectLow => 0,
+        Kind::SelectLow | Kind::SelectHigh | Kind::BusIdle | Kind::Recovery => 0,
         Kind::Exchange => 255,
-        Kind::SelectHigh => 0,
         Kind::FrameHeard => 3,
-        Kind::BusIdle => 0,
         Kind::FrameEnds => 2,
         Kind::ReceiveError => 1,
-        Kind::Recovery => 0,
         Kind::PinLevel => 2,
-        Kind::Unknown => 0,
     }
 }
 
@@ -246,20 +276,14 @@ fn largest_second(kind: Kind) -> u8
     ensures { result ≡ largest_second kind }
 {
     match kind {
-        Kind::SelectLow => 1,
-        Kind::Exchange => 1,
-        Kind::SelectHigh => 1,
+        Kind::SelectLow | Kind::Exchange | Kind::SelectHigh | Kind::PinLevel => 1,
         Kind::FrameHeard => LARGEST_CODE,
-        Kind::BusIdle => 0,
-        Kind::FrameEnds => 0,
-        Kind::ReceiveError => 0,
-        Kind::Recovery => 0,
-        Kind::PinLevel => 1,
-        Kind::Unknown => 0,
+        Kind::BusIdle | Kind::FrameEnds | Kind::ReceiveError | Kind::Recovery => 0,
     }
 }
 
 // Bytes 3 to 15 are 0.
+#[tactic(auto, using(crate::proofs::Taken::zero_four, crate::proofs::Taken::zero_bytes), unfolding(crate::specs::Records::record_of))]
 fn tail_zero(fields: Fields) -> bool
     ensures { result ≡ zeros (record_of fields) 3 13 }
 {
@@ -267,6 +291,7 @@ fn tail_zero(fields: Fields) -> bool
 }
 
 // A record of a kind that has no more than two fields.
+#[tactic(auto, unfolding(crate::specs::Records::record_of))]
 pub fn is_sound_plain(kind: Kind, fields: Fields) -> bool
     ensures { result ≡ sound_plain kind (record_of fields) }
 {
@@ -276,20 +301,13 @@ pub fn is_sound_plain(kind: Kind, fields: Fields) -> bool
 }
 
 // Refusal 2 does not name the record.
+#[tactic(auto, using(crate::proofs::Taken::two_fields), unfolding(crate::specs::Records::sound_of, crate::specs::Records::kind_of, crate::specs::Records::record_of))]
 pub fn is_sound(fields: Fields) -> bool
     ensures { result ≡ sound_of (record_of fields) }
 {
-    let kind = kind_by(fields.kind);
-    match kind {
-        Kind::SelectLow => is_sound_plain(kind, fields),
-        Kind::Exchange => is_sound_plain(kind, fields),
-        Kind::SelectHigh => is_sound_plain(kind, fields),
-        Kind::FrameHeard => is_sound_frame(fields),
-        Kind::BusIdle => is_sound_plain(kind, fields),
-        Kind::FrameEnds => is_sound_plain(kind, fields),
-        Kind::ReceiveError => is_sound_plain(kind, fields),
-        Kind::Recovery => is_sound_plain(kind, fields),
-        Kind::PinLevel => is_sound_plain(kind, fields),
-        Kind::Unknown => false,
+    match kind_by(fields.kind) {
+        None => false,
+        Some(Kind::FrameHeard) => is_sound_frame(fields),
+        Some(kind) => is_sound_plain(kind, fields),
     }
 }

@@ -1,5 +1,5 @@
 -- Registers: where each address lies, its writable bits, what it holds and what it reads.
-use Rattle.std.specs.Prelude.{ℕ, suc, ◌*◌, ◌%◌, min, Bool, true, false, cond, not, ◌&&◌, ◌≡◌, List, [], ◌∷◌, eqb, ltb, get_or, replicate}
+use Rattle.std.specs.Prelude.{ℕ, suc, ◌*◌, ◌%◌, min, Bool, true, false, cond, not, ◌&&◌, ◌≡◌, List, [], ◌∷◌, eqb, ltb, get_or, replicate, None}
 use Rattle.std.specs.Int.Bits.{bit_and, bit_or}
 use Rattle.bits.specs.Bit.{has_bit}
 use Rattle.registers.specs.declared.Region.{Region}
@@ -9,8 +9,6 @@ use Rattle.registers.specs.declared.TxBuffer.{TxBuffer}
 use Rattle.registers.specs.declared.TxBuffer.TheVariants.{Txb0, Txb1, Txb2}
 use Rattle.registers.specs.declared.RxBuffer.{RxBuffer}
 use Rattle.registers.specs.declared.RxBuffer.TheVariants.{Rxb0, Rxb1}
-use Rattle.registers.specs.declared.Flight.TheVariants.{Idle}
-use Rattle.registers.specs.declared.Request.TheVariants.{Nothing}
 use Rattle.registers.specs.declared.Flags.{Flags}
 use Rattle.registers.specs.declared.RxControl.{RxControl}
 use Rattle.registers.specs.declared.Control.{Control}
@@ -113,7 +111,7 @@ first_control =
       tx = record { txb0 = 0; txb1 = 0; txb2 = 0 };
       rx = record { rxb0 = 0; rxb1 = 0 };
       counters = no_errors;
-      state = record { mode = Configuration; flight = Idle; request = Nothing };
+      state = record { mode = Configuration; flight = None; request = None };
     }
 
 -- the request pins start high

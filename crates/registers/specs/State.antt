@@ -1,5 +1,5 @@
 -- The state that the rules carry from step to step, without the SPI side: names of bits, numbers of the enums, and one setter for each part.
-use Rattle.std.specs.Prelude.{ℕ, Bool, true, false, List, eqb, get_or, set}
+use Rattle.std.specs.Prelude.{ℕ, Bool, true, false, List, cond, eqb, get_or, set, ◌≡◌, Option, Some, None, Result, Ok, Err}
 use Rattle.bits.specs.Bit.{has_bit}
 use Rattle.registers.specs.declared.Mode.{Mode}
 use Rattle.registers.specs.declared.Mode.TheVariants.{Normal, Sleep, Loopback, ListenOnly, Configuration}
@@ -7,9 +7,7 @@ use Rattle.registers.specs.declared.TxBuffer.{TxBuffer}
 use Rattle.registers.specs.declared.TxBuffer.TheVariants.{Txb0, Txb1, Txb2}
 use Rattle.registers.specs.declared.RxBuffer.{RxBuffer}
 use Rattle.registers.specs.declared.RxBuffer.TheVariants.{Rxb0, Rxb1}
-use Rattle.registers.specs.declared.Flight.{Flight}
-use Rattle.registers.specs.declared.Flight.TheVariants.{Idle, Of}
-use Rattle.registers.specs.declared.Request.{Request}
+use Rattle.registers.specs.declared.UnknownNumber.{UnknownNumber}
 use Rattle.registers.specs.declared.State.{State}
 use Rattle.registers.specs.declared.Flags.{Flags}
 use Rattle.registers.specs.declared.TxControl.{TxControl}
@@ -117,6 +115,20 @@ tx_number Txb0 = 0
 tx_number Txb1 = 1
 tx_number Txb2 = 2
 
+-- the buffer of a number; a number from 3 on has none
+abbrev pub tx_by : ℕ → Option TxBuffer
+tx_by n =
+    cond (eqb n 0) (Some Txb0)
+    (cond (eqb n 1) (Some Txb1)
+    (cond (eqb n 2) (Some Txb2) None))
+
+abbrev pub known_or : {A : Type 0} → ℕ → Option A → Result A UnknownNumber
+known_or n (Some a) = Ok a
+known_or n None = Err (record { 0 = n })
+
+abbrev pub TxBy : ℕ → Result TxBuffer UnknownNumber → Type 0
+TxBy n r = r ≡ known_or n (tx_by n)
+
 abbrev pub tx_flag : TxBuffer → ℕ
 tx_flag Txb0 = tx0if_bit
 tx_flag Txb1 = tx1if_bit
@@ -127,16 +139,16 @@ rx_flag Rxb0 = rx0if_bit
 rx_flag Rxb1 = rx1if_bit
 
 -- ---- what is in flight
-abbrev pub is_idle : Flight → Bool
-is_idle Idle = true
-is_idle (Of b) = false
+abbrev pub is_idle : Option TxBuffer → Bool
+is_idle None = true
+is_idle (Some b) = false
 
 abbrev pub same_tx : TxBuffer → TxBuffer → Bool
 same_tx a b = eqb (tx_number a) (tx_number b)
 
-abbrev pub in_flight : Flight → TxBuffer → Bool
-in_flight Idle b = false
-in_flight (Of a) b = same_tx a b
+abbrev pub in_flight : Option TxBuffer → TxBuffer → Bool
+in_flight None b = false
+in_flight (Some a) b = same_tx a b
 
 -- ---- TXBnCTRL of a buffer
 abbrev pub tx_control : TxControl → TxBuffer → ℕ
@@ -197,10 +209,10 @@ with_eflg c v = with_flags c (record { canctrl = c.flags.canctrl; caninte = c.fl
 abbrev pub with_mode : Control → Mode → Control
 with_mode c m = with_state c (record { mode = m; flight = c.state.flight; request = c.state.request })
 
-abbrev pub with_flight : Control → Flight → Control
+abbrev pub with_flight : Control → Option TxBuffer → Control
 with_flight c f = with_state c (record { mode = c.state.mode; flight = f; request = c.state.request })
 
-abbrev pub with_request : Control → Request → Control
+abbrev pub with_request : Control → Option Mode → Control
 with_request c q = with_state c (record { mode = c.state.mode; flight = c.state.flight; request = q })
 
 -- ---- one part of the core

@@ -11,7 +11,10 @@ ghost use Rattle.registers.specs.Errors.{
   no_errors,
 };
 
-use crate::{Control, Counters, ERRIF};
+use crate::{Control, Counters, ERRIF, Flags};
+
+// TEC goes no further: eight more than what makes it bus-off at most.
+const LARGEST_TEC: u16 = 263;
 
 pub fn is_bus_off(counters: Counters) -> bool
     ensures { result ≡ is_bus_off counters }
@@ -26,6 +29,7 @@ pub fn flag(on: bool, mask: u8) -> u8
     if on { mask } else { 0 }
 }
 
+#[tactic(auto, unfolding(crate::specs::Errors::error_flags))]
 pub fn error_flags(counters: Counters) -> u8
     ensures { result ≡ error_flags counters }
 {
@@ -45,75 +49,58 @@ fn is_rise(old: u8, new: u8) -> bool
 }
 
 // The counters move, and ERRIF rises with a flag.
+#[tactic(auto, unfolding(crate::specs::Errors::moved_to))]
 pub fn moved(control: Control, counters: Counters) -> Control
     ensures { result ≡ moved_to control counters }
 {
-    let before = control.counters;
-    let canintf = control.flags.canintf;
-    let rise = is_rise(error_flags(before), error_flags(counters));
-    let raised = bits::choose(rise, canintf | ERRIF, canintf);
-    let mut next = control;
-    next.counters = counters;
-    next.flags.canintf = raised;
-    next
+    let flags = control.flags;
+    let rise = is_rise(error_flags(control.counters), error_flags(counters));
+    let canintf = bits::choose(rise, flags.canintf | ERRIF, flags.canintf);
+    Control {
+        flags: Flags { canintf, ..flags },
+        counters,
+        ..control
+    }
 }
 
 pub fn tec_less(counters: Counters) -> Counters
     ensures { result ≡ tec_less counters }
 {
-    let mut next = counters;
-    let tec = counters.tec;
-    next.tec = less_one(tec);
-    next
+    Counters {
+        tec: less_one(counters.tec),
+        ..counters
+    }
 }
 
 pub fn less_one(tec: u16) -> u16
     ensures { result ≡ tec - 1 }
 {
-    if tec == 0 { 0 } else { tec - 1 }
-}
-
-fn capped_tec(tec: u16) -> u16
-    ensures { result ≡ min (tec + 8) 263 }
-{
-    if 255 <= tec { 263 } else { tec + 8 }
+    tec.saturating_sub(1)
 }
 
 pub fn tec_more(counters: Counters) -> Counters
     ensures { result ≡ tec_more counters }
 {
-    let mut next = counters;
-    let tec = counters.tec;
-    next.tec = capped_tec(tec);
-    next
+    Counters {
+        tec: counters.tec.saturating_add(8).min(LARGEST_TEC),
+        ..counters
+    }
 }
 
 // REC after a good frame.
 pub fn heard_rec(rec: u8) -> u8
     ensures { result ≡ cond (ltb 127 rec) 127 (rec - 1) }
 {
-    if 127 < rec {
-        127
-    } else if rec == 0 {
-        0
-    } else {
-        rec - 1
-    }
-}
-
-fn capped_rec(rec: u8, by: u8) -> u8
-    ensures { result ≡ min (rec + by) 255 }
-{
-    if 255 - by <= rec { 255 } else { rec + by }
+    rec.saturating_sub(1).min(127)
 }
 
 pub fn rec_more(counters: Counters, by: u8) -> Counters
     ensures { result ≡ rec_more counters by }
 {
-    let mut next = counters;
-    let rec = counters.rec;
-    next.rec = capped_rec(rec, by);
-    next
+    Counters {
+        rec: counters.rec.saturating_add(by),
+        ..counters
+    }
 }
 
 pub fn counters_zero() -> Counters

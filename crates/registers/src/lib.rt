@@ -6,11 +6,12 @@ mod map;
 mod modes;
 mod parts;
 
+// Functions and not methods: docs/PROMISES.md promises each by this name.
 pub use errors::{
     counters_zero, error_flags, flag, heard_rec, is_bus_off, less_one, moved, rec_more, tec_less,
     tec_more,
 };
-pub use map::{canstat, capped, first_control, int_is_low, region_of};
+pub use map::{canstat, capped, first_control, int_is_low, mode_bits, region_of};
 pub use modes::{
     enter, is_configuration, is_loopback, is_normal, mode_number, request_in, requested_by,
     sends_in, settle, waits_in, with_request,
@@ -78,51 +79,43 @@ pub const RX0OVR: u8 = 64;
 
 pub const RX1OVR: u8 = 128;
 
-#[derive(Clone, Copy)]
+// By their numbers in CANSTAT and CANCTRL.
+#[derive(Clone, Copy, Debug, PartialEq, Eq)]
 pub enum Mode {
-    Normal,
-    Sleep,
-    Loopback,
-    ListenOnly,
-    Configuration,
+    Normal = 0,
+    Sleep = 1,
+    Loopback = 2,
+    ListenOnly = 3,
+    Configuration = 4,
 }
 
-#[derive(Clone, Copy)]
+#[derive(Clone, Copy, Debug, PartialEq, Eq)]
 pub enum TxBuffer {
-    Txb0,
-    Txb1,
-    Txb2,
+    Txb0 = 0,
+    Txb1 = 1,
+    Txb2 = 2,
 }
 
-#[derive(Clone, Copy)]
+#[derive(Clone, Copy, Debug, PartialEq, Eq)]
 pub enum RxBuffer {
     Rxb0,
     Rxb1,
 }
 
-// The own frame on the bus.
-#[derive(Clone, Copy)]
-pub enum Flight {
-    Idle,
-    Of(TxBuffer),
-}
+// The number of no mode, or of no buffer.
+#[derive(Clone, Copy, Debug, PartialEq, Eq)]
+pub struct UnknownNumber(pub u8);
 
-// The mode asked for and not yet entered.
-#[derive(Clone, Copy)]
-pub enum Request {
-    Nothing,
-    Wanted(Mode),
-}
-
-#[derive(Clone, Copy)]
+// The buffer whose frame is on the bus, and the mode asked for and not yet entered.
+#[derive(Clone, Copy, Debug, PartialEq, Eq)]
 pub struct State {
     pub mode: Mode,
-    pub flight: Flight,
-    pub request: Request,
+    pub flight: Option<TxBuffer>,
+    pub request: Option<Mode>,
 }
 
 // EFLG keeps its two overflow bits here; the others follow from the counters.
-#[derive(Clone, Copy)]
+#[derive(Clone, Copy, Debug, PartialEq, Eq)]
 pub struct Flags {
     pub canctrl: u8,
     pub caninte: u8,
@@ -131,7 +124,7 @@ pub struct Flags {
 }
 
 // TXBnCTRL.
-#[derive(Clone, Copy)]
+#[derive(Clone, Copy, Debug, PartialEq, Eq)]
 pub struct TxControl {
     pub txb0: u8,
     pub txb1: u8,
@@ -139,20 +132,20 @@ pub struct TxControl {
 }
 
 // RXBnCTRL.
-#[derive(Clone, Copy)]
+#[derive(Clone, Copy, Debug, PartialEq, Eq)]
 pub struct RxControl {
     pub rxb0: u8,
     pub rxb1: u8,
 }
 
-#[derive(Clone, Copy)]
+#[derive(Clone, Copy, Debug, PartialEq, Eq)]
 pub struct Counters {
     pub tec: u16,
     pub rec: u8,
 }
 
 // Everything that acts: apart from the bytes below, so that a bus event is seen to leave those alone.
-#[derive(Clone, Copy)]
+#[derive(Clone, Copy, Debug, PartialEq, Eq)]
 pub struct Control {
     pub flags: Flags,
     pub tx: TxControl,
@@ -162,7 +155,7 @@ pub struct Control {
 }
 
 // The levels of the pins TX0RTS to TX2RTS: true is high.
-#[derive(Clone, Copy)]
+#[derive(Clone, Copy, Debug, PartialEq, Eq)]
 pub struct Pins {
     pub tx0rts: bool,
     pub tx1rts: bool,
@@ -171,7 +164,7 @@ pub struct Pins {
 
 // The bytes of 00h to 2Fh (filters, masks, CNF, BFPCTRL, TXRTSCTRL), 30h to 5Fh (messages to send) and 60h to 7Fh (messages received),
 // beside what acts and the pins.
-#[derive(Clone, Copy)]
+#[derive(Clone, Copy, Debug, PartialEq, Eq)]
 pub struct Core {
     pub config: [u8; 48],
     pub tx: [u8; 48],
@@ -181,7 +174,7 @@ pub struct Core {
 }
 
 // What lies at an address. Configured: CNF1-3, which like TXRTSCTRL take writes in the same mode as filters and masks but always read.
-#[derive(Clone, Copy)]
+#[derive(Clone, Copy, Debug, PartialEq, Eq)]
 pub enum Region {
     Filters,
     Masks,

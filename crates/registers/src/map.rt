@@ -17,8 +17,8 @@ ghost use Rattle.registers.specs.Registers.{
 
 use crate::errors::counters_zero;
 use crate::{
-    Control, ERRIF, Flags, Flight, Mode, RX1IF, Region, Request, RxBuffer, RxControl, State, TX0IF,
-    TX1IF, TX2IF, TxBuffer, TxControl, WAKIF,
+    Control, ERRIF, Flags, Mode, RX1IF, Region, RxBuffer, RxControl, State, TX0IF, TX1IF, TX2IF,
+    TxBuffer, TxControl, WAKIF,
 };
 
 fn tx_at(address: u8) -> TxBuffer
@@ -96,6 +96,7 @@ fn buffer_rows(address: u8) -> Region
     }
 }
 
+#[tactic(auto, unfolding(crate::specs::Registers::region_of))]
 pub fn region_of(address: u8) -> Region
     ensures { result ≡ region_of address }
 {
@@ -133,8 +134,8 @@ pub fn first_control() -> Control
         counters: counters_zero(),
         state: State {
             mode: Mode::Configuration,
-            flight: Flight::Idle,
-            request: Request::Nothing,
+            flight: None,
+            request: None,
         },
     }
 }
@@ -147,14 +148,15 @@ fn sources_of(flags: Flags) -> u8
 }
 
 // The INT line.
+#[tactic(auto, unfolding(crate::specs::Registers::int_is_low))]
 pub fn int_is_low(control: Control) -> bool
     ensures { result ≡ int_is_low control }
 {
-    let flags = control.flags;
-    sources_of(flags) != 0
+    sources_of(control.flags) != 0
 }
 
 // The code of the lowest source, in its place.
+#[tactic(auto, unfolding(crate::specs::Registers::interrupt_code))]
 fn interrupt_bits(flagged: u8) -> u8
     ensures { result ≡ interrupt_code flagged * 2 }
 {
@@ -182,30 +184,23 @@ fn interrupt_bits(flagged: u8) -> u8
     0
 }
 
-fn mode_bits(mode: Mode) -> u8
+// The mode as bits 7 to 5.
+pub fn mode_bits(mode: Mode) -> u8
     ensures { result ≡ mode_number mode * 32 }
 {
-    match mode {
-        Mode::Normal => 0,
-        Mode::Sleep => 32,
-        Mode::Loopback => 64,
-        Mode::ListenOnly => 96,
-        Mode::Configuration => 128,
-    }
+    mode as u8 * 32
 }
 
+#[tactic(auto, unfolding(crate::specs::Registers::canstat_of))]
 pub fn canstat(control: Control) -> u8
     ensures { result ≡ canstat_of control }
 {
-    let state = control.state;
-    let mode = state.mode;
-    let flags = control.flags;
-    mode_bits(mode) | interrupt_bits(sources_of(flags))
+    mode_bits(control.state.mode) | interrupt_bits(sources_of(control.flags))
 }
 
 // TEC as it reads.
 pub fn capped(tec: u16) -> u8
     ensures { result ≡ min tec 255 }
 {
-    if 255 <= tec { 255 } else { tec as u8 }
+    tec.min(255) as u8
 }

@@ -3,6 +3,7 @@ ghost use Rattle.std.specs.Prelude.{◌≡◌};
 ghost use Rattle.registers.specs.State.{mode_number, is_configuration, is_normal, is_loopback, with_request};
 ghost use Rattle.registers.specs.Modes.{
   requested,
+  ModeBy,
   request_in,
   sends_in,
   waits,
@@ -14,88 +15,68 @@ ghost use Rattle.registers.specs.Modes.{
 
 use crate::errors::counters_zero;
 use crate::parts::is_idle;
-use crate::{Control, Counters, Mode, Request, State, TXREQ, TxControl};
+use crate::{Control, Counters, Mode, State, TXREQ, TxControl, UnknownNumber};
+
+impl TryFrom<u8> for Mode {
+    type Error = UnknownNumber;
+
+    ghost try_from_gives = { ModeBy };
+
+    fn try_from(number: u8) -> Result<Self, UnknownNumber> {
+        match number {
+            0 => Ok(Mode::Normal),
+            1 => Ok(Mode::Sleep),
+            2 => Ok(Mode::Loopback),
+            3 => Ok(Mode::ListenOnly),
+            4 => Ok(Mode::Configuration),
+            _ => Err(UnknownNumber(number)),
+        }
+    }
+}
 
 pub fn mode_number(mode: Mode) -> u8
     ensures { result ≡ mode_number mode }
 {
-    match mode {
-        Mode::Normal => 0,
-        Mode::Sleep => 1,
-        Mode::Loopback => 2,
-        Mode::ListenOnly => 3,
-        Mode::Configuration => 4,
-    }
+    mode as u8
 }
 
 pub fn is_configuration(mode: Mode) -> bool
     ensures { result ≡ is_configuration mode }
 {
-    match mode {
-        Mode::Normal => false,
-        Mode::Sleep => false,
-        Mode::Loopback => false,
-        Mode::ListenOnly => false,
-        Mode::Configuration => true,
-    }
+    mode == Mode::Configuration
 }
 
 pub fn is_normal(mode: Mode) -> bool
     ensures { result ≡ is_normal mode }
 {
-    match mode {
-        Mode::Normal => true,
-        Mode::Sleep => false,
-        Mode::Loopback => false,
-        Mode::ListenOnly => false,
-        Mode::Configuration => false,
-    }
+    mode == Mode::Normal
 }
 
 pub fn is_loopback(mode: Mode) -> bool
     ensures { result ≡ is_loopback mode }
 {
-    match mode {
-        Mode::Normal => false,
-        Mode::Sleep => false,
-        Mode::Loopback => true,
-        Mode::ListenOnly => false,
-        Mode::Configuration => false,
-    }
+    mode == Mode::Loopback
 }
 
 // Normal and Loopback send.
 pub fn sends_in(mode: Mode) -> bool
     ensures { result ≡ sends_in mode }
 {
-    match mode {
-        Mode::Normal => true,
-        Mode::Sleep => false,
-        Mode::Loopback => true,
-        Mode::ListenOnly => false,
-        Mode::Configuration => false,
-    }
+    matches!(mode, Mode::Normal | Mode::Loopback)
 }
 
-pub fn requested_by(number: u8) -> Request
+pub fn requested_by(number: u8) -> Option<Mode>
     ensures { result ≡ requested number }
 {
-    match number {
-        0 => Request::Wanted(Mode::Normal),
-        1 => Request::Wanted(Mode::Sleep),
-        2 => Request::Wanted(Mode::Loopback),
-        3 => Request::Wanted(Mode::ListenOnly),
-        4 => Request::Wanted(Mode::Configuration),
-        _ => Request::Nothing,
-    }
+    Mode::try_from(number).ok()
 }
 
 // The request that mode bits number make in mode m.
-pub fn request_in(mode: Mode, number: u8) -> Request
+pub fn request_in(mode: Mode, number: u8) -> Option<Mode>
     ensures { result ≡ request_in mode number }
 {
     if number == mode_number(mode) {
-        return Request::Nothing;
+        return None;
     }
     requested_by(number)
 }
@@ -111,72 +92,53 @@ fn counters_in(mode: Mode, counters: Counters) -> Counters
     ensures { result ≡ counters_in mode counters }
 {
     match mode {
-        Mode::Normal => counters,
-        Mode::Sleep => counters,
-        Mode::Loopback => counters,
-        Mode::ListenOnly => counters_zero(),
-        Mode::Configuration => counters_zero(),
+        Mode::Normal | Mode::Sleep | Mode::Loopback => counters,
+        Mode::ListenOnly | Mode::Configuration => counters_zero(),
     }
 }
 
+#[tactic(auto, unfolding(crate::specs::Modes::entered))]
 pub fn enter(control: Control, mode: Mode) -> Control
     ensures { result ≡ entered control mode }
 {
-    let counters = control.counters;
-    let state = control.state;
-    let flight = state.flight;
-    let request = state.request;
-    let changed = State {
-        mode,
-        flight,
-        request,
-    };
-    let mut next = control;
-    next.counters = counters_in(mode, counters);
-    next.state = changed;
-    next
+    Control {
+        counters: counters_in(mode, control.counters),
+        state: State {
+            mode,
+            ..control.state
+        },
+        ..control
+    }
 }
 
-pub fn with_request(control: Control, request: Request) -> Control
+pub fn with_request(control: Control, request: Option<Mode>) -> Control
     ensures { result ≡ with_request control request }
 {
-    let state = control.state;
-    let mode = state.mode;
-    let flight = state.flight;
-    let changed = State {
-        mode,
-        flight,
-        request,
-    };
-    let mut next = control;
-    next.state = changed;
-    next
+    Control {
+        state: State {
+            request,
+            ..control.state
+        },
+        ..control
+    }
 }
 
+#[tactic(auto, unfolding(crate::specs::Modes::free_to_change))]
 fn is_free_to_change(control: Control) -> bool
     ensures { result ≡ free_to_change control }
 {
     let state = control.state;
-    let mode = state.mode;
-    let flight = state.flight;
-    let tx = control.tx;
-    !sends_in(mode) | (!waits_in(tx) & is_idle(flight))
+    !sends_in(state.mode) | (!waits_in(control.tx) & is_idle(state.flight))
 }
 
 // A mode request is carried out where it can be: the last act of each accepted step.
+#[tactic(auto, unfolding(crate::specs::Modes::settled))]
 pub fn settle(control: Control) -> Control
     ensures { result ≡ settled control }
 {
-    let state = control.state;
-    let request = state.request;
-    match request {
-        Request::Nothing => control,
-        Request::Wanted(m) => {
-            if is_free_to_change(control) {
-                enter(with_request(control, Request::Nothing), m)
-            } else {
-                control
-            }
-        }
+    match control.state.request {
+        None => control,
+        Some(mode) if is_free_to_change(control) => enter(with_request(control, None), mode),
+        Some(_) => control,
     }
 }

@@ -3,6 +3,7 @@ ghost use Rattle.std.specs.Prelude.{◌≡◌};
 ghost use Rattle.registers.specs.State.{
   aborts_all,
   tx_number,
+  TxBy,
   is_idle,
   same_tx,
   in_flight,
@@ -10,40 +11,45 @@ ghost use Rattle.registers.specs.State.{
   with_tx_control,
 };
 
-use crate::{ABAT, Control, Flight, TxBuffer, TxControl};
+use crate::{ABAT, Control, TxBuffer, TxControl, UnknownNumber};
+
+impl TryFrom<u8> for TxBuffer {
+    type Error = UnknownNumber;
+
+    ghost try_from_gives = { TxBy };
+
+    fn try_from(number: u8) -> Result<Self, UnknownNumber> {
+        match number {
+            0 => Ok(TxBuffer::Txb0),
+            1 => Ok(TxBuffer::Txb1),
+            2 => Ok(TxBuffer::Txb2),
+            _ => Err(UnknownNumber(number)),
+        }
+    }
+}
 
 pub fn tx_number(buffer: TxBuffer) -> u8
     ensures { result ≡ tx_number buffer }
 {
-    match buffer {
-        TxBuffer::Txb0 => 0,
-        TxBuffer::Txb1 => 1,
-        TxBuffer::Txb2 => 2,
-    }
+    buffer as u8
 }
 
-pub fn is_idle(flight: Flight) -> bool
+pub fn is_idle(flight: Option<TxBuffer>) -> bool
     ensures { result ≡ is_idle flight }
 {
-    match flight {
-        Flight::Idle => true,
-        Flight::Of(_) => false,
-    }
+    flight.is_none()
 }
 
 pub fn same_tx(first: TxBuffer, second: TxBuffer) -> bool
     ensures { result ≡ same_tx first second }
 {
-    tx_number(first) == tx_number(second)
+    first == second
 }
 
-pub fn in_flight(flight: Flight, buffer: TxBuffer) -> bool
+pub fn in_flight(flight: Option<TxBuffer>, buffer: TxBuffer) -> bool
     ensures { result ≡ in_flight flight buffer }
 {
-    match flight {
-        Flight::Idle => false,
-        Flight::Of(sent) => same_tx(sent, buffer),
-    }
+    flight == Some(buffer)
 }
 
 pub fn tx_control(tx: TxControl, buffer: TxBuffer) -> u8
@@ -59,26 +65,15 @@ pub fn tx_control(tx: TxControl, buffer: TxBuffer) -> u8
 pub fn with_tx_control(tx: TxControl, buffer: TxBuffer, value: u8) -> TxControl
     ensures { result ≡ with_tx_control tx buffer value }
 {
-    let mut next = tx;
     match buffer {
-        TxBuffer::Txb0 => {
-            next.txb0 = value;
-            next
-        }
-        TxBuffer::Txb1 => {
-            next.txb1 = value;
-            next
-        }
-        TxBuffer::Txb2 => {
-            next.txb2 = value;
-            next
-        }
+        TxBuffer::Txb0 => TxControl { txb0: value, ..tx },
+        TxBuffer::Txb1 => TxControl { txb1: value, ..tx },
+        TxBuffer::Txb2 => TxControl { txb2: value, ..tx },
     }
 }
 
 pub fn aborts_all(control: Control) -> bool
     ensures { result ≡ aborts_all control }
 {
-    let canctrl = control.flags.canctrl;
-    canctrl / ABAT % 2 == 1
+    control.flags.canctrl / ABAT % 2 == 1
 }

@@ -36,14 +36,12 @@ enum Failure {
     Output(io::Error),
 }
 
-// The records run so far, the chip that they left, the bytes of a record that is not whole yet, and
-// whether to go on.
+// The records run so far, the chip that they left, and the bytes of a record that is not whole yet.
 #[derive(Clone, Copy)]
 struct Progress {
     chip: Chip,
     number: u32,
     kept: usize,
-    more: bool,
 }
 
 fn stretch_buffer() -> [u8; STRETCH]
@@ -52,34 +50,27 @@ fn stretch_buffer() -> [u8; STRETCH]
     [0; STRETCH]
 }
 
-// Renders a part of the log and writes its text at once.
+// Renders a part of the log and writes its text at once. Nothing follows a record that ends the log.
 fn replay_part<W: Write>(
     progress: Progress,
     part: &[u8],
     text: &mut [u8],
     output: &mut W,
-) -> Result<Progress, Failure> {
+) -> Result<Option<Progress>, Failure> {
     let rendered = log_text::render_stretch(progress.chip, progress.number, part, text);
     let len = rendered.len;
     if len > text.len() {
         return Err(Failure::Output(io::Error::from(io::ErrorKind::Other)));
     }
     output.write_all(&text[..len]).map_err(Failure::Output)?;
-    Ok(Progress {
+    if rendered.refusal > 0 {
+        return Ok(None);
+    }
+    Ok(Some(Progress {
         chip: rendered.chip,
         number: rendered.number,
         kept: 0,
-        more: rendered.refusal == 0,
-    })
-}
-
-fn stopped(progress: Progress) -> Progress {
-    Progress {
-        chip: progress.chip,
-        number: progress.number,
-        kept: 0,
-        more: false,
-    }
+    }))
 }
 
 // Moves the start of a record that is not whole yet to the front.
@@ -96,19 +87,16 @@ fn replay_whole<W: Write>(
     size: usize,
     text: &mut [u8],
     output: &mut W,
-) -> Result<Progress, Failure>
+) -> Result<Option<Progress>, Failure>
     requires { size ≤ length input.old }
 {
     let left = size % RECORD_SIZE;
     let whole = size - left;
-    let next = replay_part(progress, &input[..whole], text, output)?;
+    let Some(next) = replay_part(progress, &input[..whole], text, output)? else {
+        return Ok(None);
+    };
     keep(input, whole, left);
-    Ok(Progress {
-        chip: next.chip,
-        number: next.number,
-        kept: left,
-        more: next.more,
-    })
+    Ok(Some(Progress { kept: left, ..next }))
 }
 
 fn read_behind<R: Read>(log: &mut R, input: &mut [u8], kept: usize) -> io::Result<usize>
@@ -125,15 +113,15 @@ fn replay_read<R: Read, W: Write>(
     input: &mut [u8],
     text: &mut [u8],
     output: &mut W,
-) -> Result<Progress, Failure> {
+) -> Result<Option<Progress>, Failure> {
     let kept = progress.kept;
     if kept >= input.len() {
-        return Ok(stopped(progress));
+        return Ok(None);
     }
     let got = read_behind(log, input, kept).map_err(Failure::Log)?;
     if got == 0 {
-        let last = replay_part(progress, &input[..kept], text, output)?;
-        return Ok(stopped(last));
+        replay_part(progress, &input[..kept], text, output)?;
+        return Ok(None);
     }
     replay_whole(progress, input, kept + got, text, output)
 }
@@ -145,13 +133,12 @@ fn replay_log<R: Read, W: Write>(log: &mut R, output: &mut W) -> Result<(), Fail
         chip: mcp2515::power_on(),
         number: 0,
         kept: 0,
-        more: true,
     };
     for _ in 0..MOST_READS {
-        if !progress.more {
-            break;
+        match replay_read(log, progress, &mut input, &mut text, output)? {
+            Some(next) => progress = next,
+            None => break,
         }
-        progress = replay_read(log, progress, &mut input, &mut text, output)?;
     }
     Ok(())
 }
@@ -253,7 +240,7 @@ fn replay_operand(rt: &HostRuntime) -> ExitCode {
 }
 
 fn is_option(word: &[u8]) -> bool {
-    word.len() > 1 && word[0] == b'-'
+    matches!(word, [b'-', _, ..])
 }
 
 fn replay_by(rt: &HostRuntime, first: &[u8]) -> ExitCode {

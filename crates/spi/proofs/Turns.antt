@@ -4,7 +4,6 @@ use mathlib.Core.Bool.{Bool, true, false, cond}
 use mathlib.Core.List.{List}
 use Prim.Native.Nat.{ℕ, ◌+◌, ◌≤◌}
 use native.Mathlib.Omega.{arith}
-use lib.Dec.{eqb}
 use lib.ListN.{length, get_or, set, drop, length-set}
 use lib.Seq.{get_or-set_same, get_or-set_other, get_or-drop, drop-set-lt, drop-drop}
 use borrow.Author.Tests.{ne_eqb}
@@ -15,7 +14,7 @@ use Rattle.registers.specs.declared.Pins.{Pins}
 use Rattle.registers.specs.declared.Core.{Core}
 use Rattle.registers.specs.State.{with_control, with_pins}
 use Rattle.registers.specs.Modes.{settled}
-use Rattle.image.specs.Image.{image_size, select_at, control_of, pins_of, core_of, Became, Acted}
+use Rattle.image.specs.Image.{image_size, select_at, control_of, pins_of, core_of, Became}
 use Rattle.image.proofs.Laws.{pins_away, behind_control, high_kept}
 use Rattle.controller.specs.Events.{settled_core}
 use Rattle.spi.specs.declared.Command.{Command}
@@ -27,9 +26,11 @@ use Rattle.spi.specs.declared.Act.TheVariants.{Rest, ClearFlag}
 use Rattle.spi.specs.declared.Speaker.{Speaker}
 use Rattle.spi.specs.declared.Speaker.TheVariants.{Controller, Panel}
 use Rattle.spi.specs.declared.Select.{Select}
+use Rattle.spi.specs.declared.stages.Stage.{Stage}
+use Rattle.spi.specs.Stages.{stage_number}
 use Rattle.spi.specs.declared.Select.TheVariants.{Raised, Lowered}
-use Rattle.spi.specs.Instructions.{speaker_by, command_by, first_act, exchange_act, goes_on, act_by, clears_flag, high_act, reply_to, refusal_of, acted}
-use Rattle.spi.specs.Open.{reading_number, instruction_by, select_by, select_of, speaker_of, open_of, Turned, performed}
+use Rattle.spi.specs.Instructions.{speaker_by, command_by, first_act, exchange_act, goes_on, act_by, next_by, clears_flag, high_act, reply_to, refusal_of, acted}
+use Rattle.spi.specs.Open.{reading_number, instruction_by, select_by, select_of, speaker_of, open_of, Turned, performed, Exchanged}
 
 -- ---- a byte from the select line on is none of the core
 pub select_core : (m : List ℕ) (i v : ℕ) → select_at ≤ i → core_of (set m i v) ≡ core_of m
@@ -62,18 +63,19 @@ lined m e = record { size = e; core = refl; number = refl; address = refl; mask 
 pub became_lined : {m n : List ℕ} {k : Core} → Became m n k → Lined m n k (get_or m 146 0) (get_or m 147 0) (get_or m 148 0) (get_or m 149 0)
 became_lined w = record { size = w.size; core = w.core; number = select_kept w 0; address = select_kept w 1; mask = select_kept w 2; who = select_kept w 3; spare = spare_kept w }
 
-module _ {m n : List ℕ} {k : Core} {p a q w : ℕ} (l : Lined m n k p a q w) (v : ℕ) where
-  pub number_set : Lined m (set n 146 v) k v a q w
-  number_set = record {
-    size = length-set n 146 v ∙ l.size;
-    core = select_core n 146 v (omega arith) ∙ l.core;
-    number = get_or-set_same n 146 v 0 (omega (arith, l.size));
-    address = get_or-set_other n 146 147 v 0 (λ e. omega arith) ∙ l.address;
-    mask = get_or-set_other n 146 148 v 0 (λ e. omega arith) ∙ l.mask;
-    who = get_or-set_other n 146 149 v 0 (λ e. omega arith) ∙ l.who;
-    spare = drop-set-lt 150 n 146 v (omega arith) ∙ l.spare;
-  }
+-- the number of a stage is put in
+pub number_set : {m n : List ℕ} {k : Core} {p a q w v s : ℕ} → Lined m n k p a q w → v ≡ s → Lined m (set n 146 v) k s a q w
+number_set {n = n} {v = v} l e = record {
+  size = length-set n 146 v ∙ l.size;
+  core = select_core n 146 v (omega arith) ∙ l.core;
+  number = get_or-set_same n 146 v 0 (omega (arith, l.size)) ∙ e;
+  address = get_or-set_other n 146 147 v 0 (λ e. omega arith) ∙ l.address;
+  mask = get_or-set_other n 146 148 v 0 (λ e. omega arith) ∙ l.mask;
+  who = get_or-set_other n 146 149 v 0 (λ e. omega arith) ∙ l.who;
+  spare = drop-set-lt 150 n 146 v (omega arith) ∙ l.spare;
+}
 
+module _ {m n : List ℕ} {k : Core} {p a q w : ℕ} (l : Lined m n k p a q w) (v : ℕ) where
   pub address_set : Lined m (set n 147 v) k p v q w
   address_set = record {
     size = length-set n 147 v ∙ l.size;
@@ -130,15 +132,13 @@ then_put {i = i} l e t = record {
   rest = t.rest ∙ l.spare;
 }
 
-pub then_settled : {m n p : List ℕ} {k : Core} {s : Select} → Turned m n k s → Acted n p (with_control (core_of n) (settled (control_of n))) → Turned m p (settled_core k) s
-then_settled {m} {n} {p} {k} {s} t a =
-    let w : Became n p (settled_core (core_of n)) = a.image t.size in
-    record {
-      size = w.size;
-      core = w.core ∙ ap settled_core t.core;
-      select = rw (select_kept w 0, select_kept w 1, select_kept w 2, select_kept w 3) t.select;
-      rest = spare_kept w ∙ t.rest;
-    }
+pub then_settled : {m n p : List ℕ} {k : Core} {s : Select} → Turned m n k s → Became n p (with_control (core_of n) (settled (control_of n))) → Turned m p (settled_core k) s
+then_settled t w = record {
+  size = w.size;
+  core = w.core ∙ ap settled_core t.core;
+  select = rw (select_kept w 0, select_kept w 1, select_kept w 2, select_kept w 3) t.select;
+  rest = spare_kept w ∙ t.rest;
+}
 
 -- ---- an act of the automaton, and the mode request after it
 first_acted : (x : Command) (k : Core) → acted (first_act x) k ≡ settled_core (performed (first_act x) k)
@@ -207,6 +207,23 @@ at_open P {p} {q} {i} {j} e h =
 pub not_both : {A : Type 0} {p : Speaker} {i : Instruction} → Raised ≡ Lowered p i → A
 not_both e = let z : ◌≡◌ {A = ℕ} 0 1 = cc in absurd (omega arith)
 
+pub low_of : (m : List ℕ) {p : Speaker} {i : Instruction} → select_of m ≡ Lowered p i → get_or m 146 0 ≡ 0 → ⊥
+low_of m s e = not_both (rw e at s)
+
+-- an exchange over an image by its own select line is one by any that it may be named by
+pub exchanged : {m n : List ℕ} {b r : ℕ} → length m ≡ image_size
+    → ((get_or m 146 0 ≡ 0 → ⊥) → r ≡ reply_to (act_by (speaker_of m) (open_of m) b) (core_of m))
+    → ((get_or m 146 0 ≡ 0 → ⊥) → Turned m n (acted (act_by (speaker_of m) (open_of m) b) (core_of m)) (Lowered (speaker_of m) (next_by (speaker_of m) (open_of m) b)))
+    → (select_of m ≡ Raised → (r ≡ 0) × (n ≡ m)) → Exchanged m n b r
+exchanged {m} {n} {b} {r} size reply turned raised = record {
+  reply = λ _ p i s. at_open (λ (w : Speaker) (j : Instruction). r ≡ reply_to (act_by w j b) (core_of m)) (sym (open_of_lem m (low_of m s)) ∙ s) (reply (low_of m s));
+  image = λ _ p i s.
+      at_open (λ (w : Speaker) (j : Instruction). Turned m n (acted (act_by w j b) (core_of m)) (Lowered w (next_by w j b)))
+      (sym (open_of_lem m (low_of m s)) ∙ s) (turned (low_of m s));
+  raised = raised;
+  other = λ h. absurd (h size);
+}
+
 -- what holds of either
 pub by_cond : {A : Type 0} (P : A → Type 0) (b : Bool) {x y : A} → P x → P y → P (cond b x y)
 by_cond P true p q = p
@@ -216,20 +233,27 @@ by_cond P false p q = q
 abbrev Quiet : Speaker → Instruction → Type 0
 Quiet w i = high_act w i ≡ Rest
 
-pub quiet_high : (w : Speaker) (n a m : ℕ) → (n ≡ 9 → ⊥) → (n ≡ 10 → ⊥) → Quiet w (instruction_by n a m)
+pub quiet_high : (w : Speaker) (s : Stage) (a m : ℕ) → (s ≡ Stage.ReadingRxb0 → ⊥) → (s ≡ Stage.ReadingRxb1 → ⊥) → Quiet w (instruction_by (stage_number s) a m)
 unfolding instruction_by
-quiet_high w n a m p q =
-    rw (ne_eqb n 9 p, ne_eqb n 10 q)
-    (by_cond (Quiet w) (eqb n 1) refl
-    (by_cond (Quiet w) (eqb n 2) refl
-    (by_cond (Quiet w) (eqb n 3) refl
-    (by_cond (Quiet w) (eqb n 4) refl
-    (by_cond (Quiet w) (eqb n 5) refl
-    (by_cond (Quiet w) (eqb n 6) refl
-    (by_cond (Quiet w) (eqb n 7) refl
-    (by_cond (Quiet w) (eqb n 8) refl
-    (by_cond (Quiet w) (eqb n 11) refl
-    (by_cond (Quiet w) (eqb n 12) refl refl))))))))))
+quiet_high w Stage.Raised a m p q = refl
+quiet_high w Stage.First a m p q = refl
+quiet_high w Stage.ReadAddress a m p q = refl
+quiet_high w Stage.Reading a m p q = refl
+quiet_high w Stage.WriteAddress a m p q = refl
+quiet_high w Stage.Writing a m p q = refl
+quiet_high w Stage.ModifyAddress a m p q = refl
+quiet_high w Stage.ModifyMask a m p q = refl
+quiet_high w Stage.ModifyData a m p q = refl
+quiet_high w Stage.ReadingRxb0 a m p q = absurd (p refl)
+quiet_high w Stage.ReadingRxb1 a m p q = absurd (q refl)
+quiet_high w Stage.StatusReply a m p q = refl
+quiet_high w Stage.RxStatusReply a m p q = refl
+quiet_high w Stage.Done a m p q = refl
+
+-- who is not the controller is the panel
+pub by_panel : (w : Speaker) → (w ≡ Controller → ⊥) → w ≡ Panel
+by_panel Controller h = absurd (h refl)
+by_panel Panel h = refl
 
 -- RX1IF is cleared for either speaker
 pub clears_second : (p : Speaker) → clears_flag p Rxb1 ≡ true

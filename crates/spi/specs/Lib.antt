@@ -1,2 +1,3 @@
 pub mod Instructions
+pub mod Stages
 pub mod Open

@@ -12,14 +12,10 @@ ghost use Rattle.spi.specs.Instructions.{
   command_by,
 };
 ghost use Rattle.spi.specs.Open.{instruction_by};
+ghost use Rattle.spi.specs.Stages.{stage_number};
 
-use crate::Command;
+use crate::{Command, Speaker, Stage};
 use registers::{RxBuffer, TxBuffer};
-
-// The speaker by its number; any other is the panel.
-pub const CONTROLLER: u8 = 0;
-
-pub const PANEL: u8 = 1;
 
 // The addresses of the control registers of the panel's buffers.
 const TXB2CTRL: u8 = 0x50;
@@ -27,6 +23,7 @@ const TXB2CTRL: u8 = 0x50;
 const RXB1CTRL: u8 = 0x70;
 
 // READ RX BUFFER and LOAD TX BUFFER.
+#[tactic(auto, unfolding(crate::specs::Instructions::buffer_command))]
 fn buffer_command(code: u8) -> Command
     ensures { result ≡ buffer_command code }
 {
@@ -45,6 +42,7 @@ fn buffer_command(code: u8) -> Command
     }
 }
 
+#[tactic(auto, unfolding(crate::specs::Instructions::command_of))]
 fn command_of(code: u8) -> Command
     ensures { result ≡ command_of code }
 {
@@ -66,25 +64,20 @@ fn command_of(code: u8) -> Command
 pub fn is_same(a: u8, b: u8) -> bool
     ensures { result ≡ same_speaker (speaker_by a) (speaker_by b) }
 {
-    if a == b {
-        return true;
-    }
-    (a != CONTROLLER) & (b != CONTROLLER)
+    Speaker::from(a) == Speaker::from(b)
 }
 
-// What a code is to the panel: READ, both statuses, READ RX BUFFER of RXB1, LOAD TX BUFFER and RTS of TXB2, or nothing.
-fn panel_command(code: u8) -> Command
-    ensures { result ≡ permitted (command_of code) }
+// What a command is to the panel.
+fn permitted(command: Command) -> Command
+    ensures { result ≡ permitted command }
 {
-    match code {
-        0x03 => Command::Read,
-        0xA0 => Command::ReadStatus,
-        0xB0 => Command::RxStatus,
-        0x94 => Command::ReadRxBuffer(RxBuffer::Rxb1, 0x71),
-        0x96 => Command::ReadRxBuffer(RxBuffer::Rxb1, 0x76),
-        0x44 => Command::LoadTxBuffer(TxBuffer::Txb2, 0x51),
-        0x45 => Command::LoadTxBuffer(TxBuffer::Txb2, 0x56),
-        0x84 => Command::Rts(4),
+    match command {
+        Command::Read
+        | Command::ReadStatus
+        | Command::RxStatus
+        | Command::ReadRxBuffer(RxBuffer::Rxb1, _)
+        | Command::LoadTxBuffer(TxBuffer::Txb2, _)
+        | Command::Rts(4) => command,
         _ => Command::UnknownCode,
     }
 }
@@ -94,40 +87,40 @@ fn in_message(control: u8, address: u8) -> bool
     ensures { result ≡ in_message control address }
 {
     let at = address % 128;
-    (at > control) & ((at as u16) < control as u16 + 14)
+    at > control && at - control < 14
 }
 
 // Whether the panel's open instruction has more to do; its mask does not count.
-fn panel_goes_on(number: u8, address: u8) -> bool
-    ensures { result ≡ panel_goes_on (instruction_by number address 0) }
+#[tactic(auto, unfolding(crate::specs::Open::instruction_by))]
+fn panel_goes_on(stage: Stage, address: u8) -> bool
+    ensures { result ≡ panel_goes_on (instruction_by (stage_number stage) address 0) }
 {
-    match number {
-        4 => false,
-        5 => in_message(TXB2CTRL, address),
-        6 => false,
-        7 => false,
-        8 => false,
-        9 => false,
-        10 => in_message(RXB1CTRL, address),
-        _ => true,
+    match stage {
+        Stage::Writing => in_message(TXB2CTRL, address),
+        Stage::ReadingRxb1 => in_message(RXB1CTRL, address),
+        Stage::WriteAddress | Stage::ReadingRxb0 => false,
+        Stage::ModifyAddress | Stage::ModifyMask | Stage::ModifyData => false,
+        Stage::First | Stage::ReadAddress | Stage::Reading => true,
+        Stage::StatusReply | Stage::RxStatusReply => true,
+        Stage::Raised | Stage::Done => true,
     }
 }
 
-pub fn goes_on(speaker: u8, number: u8, address: u8) -> bool
-    ensures { result ≡ goes_on (speaker_by speaker) (instruction_by number address 0) }
+pub fn goes_on(speaker: Speaker, stage: Stage, address: u8) -> bool
+    ensures { result ≡ goes_on speaker (instruction_by (stage_number stage) address 0) }
 {
-    if speaker == CONTROLLER {
-        return true;
+    match speaker {
+        Speaker::Controller => true,
+        Speaker::Panel => panel_goes_on(stage, address),
     }
-    panel_goes_on(number, address)
 }
 
 // What a code is to a speaker.
-pub fn command_by(speaker: u8, code: u8) -> Command
-    ensures { result ≡ command_by (speaker_by speaker) code }
+pub fn command_by(speaker: Speaker, code: u8) -> Command
+    ensures { result ≡ command_by speaker code }
 {
-    if speaker == CONTROLLER {
-        return command_of(code);
+    match speaker {
+        Speaker::Controller => command_of(code),
+        Speaker::Panel => permitted(command_of(code)),
     }
-    panel_command(code)
 }

@@ -1,24 +1,50 @@
 // The SPI side as an automaton: a byte and the open instruction give the next open instruction and one act on the core.
 #![tactic(auto)]
 
+ghost use Rattle.std.specs.Prelude.{◌≡◌};
+ghost use Rattle.spi.specs.Instructions.{speaker_by};
+
 mod codes;
-mod exchanges;
-mod lines;
+pub mod exchanges;
+pub mod lines;
+mod slices;
+mod stages;
 mod statuses;
 
 pub use codes::is_same;
-pub use exchanges::{close, exchange, open};
-pub use lines::{put_select, select_of};
+pub use slices::{close, exchange, open, put_select, select_of};
+pub use stages::Stage;
 
 // Who drives the SPI lines.
-#[derive(Clone, Copy)]
+#[derive(Clone, Copy, Debug, PartialEq, Eq)]
 pub enum Speaker {
-    Controller,
-    Panel,
+    Controller = 0,
+    Panel = 1,
+}
+
+impl From<u8> for Speaker {
+    ghost from_gives = { λ n s. s ≡ speaker_by n };
+
+    // Any other byte is the panel.
+    fn from(number: u8) -> Speaker {
+        match number {
+            0 => Speaker::Controller,
+            _ => Speaker::Panel,
+        }
+    }
+}
+
+impl Speaker {
+    // The byte that names them.
+    pub fn number(self) -> u8
+        ensures { speaker_by result ≡ self }
+    {
+        self as u8
+    }
 }
 
 // What the next exchange is for.
-#[derive(Clone, Copy)]
+#[derive(Clone, Copy, Debug, PartialEq, Eq)]
 pub enum Instruction {
     First,
     ReadAddress,
@@ -34,8 +60,9 @@ pub enum Instruction {
     Done,
 }
 
-// An instruction by its first byte; the two buffer instructions with their first address.
-#[derive(Clone, Copy)]
+// An instruction by its first byte; the two buffer instructions with their first address. A code that names none is a command too:
+// one that does nothing.
+#[derive(Clone, Copy, Debug, PartialEq, Eq)]
 pub enum Command {
     Reset,
     Read,
@@ -49,8 +76,8 @@ pub enum Command {
     UnknownCode,
 }
 
-// What a record of the SPI side asks of the core.
-#[derive(Clone, Copy)]
+// What a record of the SPI side asks of the core. To refuse is an act among the others: each has its reply and its refusal in specs/.
+#[derive(Clone, Copy, Debug, PartialEq, Eq)]
 pub enum Act {
     Rest,
     ResetAll,
@@ -64,8 +91,8 @@ pub enum Act {
     Refuse(u8),
 }
 
-// The select line, and while it is low who selected and the open instruction.
-#[derive(Clone, Copy)]
+// The select line, and while it is low who selected and the open instruction. No Option: these are the two levels of a line.
+#[derive(Clone, Copy, Debug, PartialEq, Eq)]
 pub enum Select {
     Raised,
     Lowered(Speaker, Instruction),

@@ -1,9 +1,9 @@
 // READ STATUS and RX STATUS.
-ghost use Rattle.std.specs.Prelude.{◌≡◌, ◌%◌, length};
-ghost use Rattle.image.specs.Image.{image_size, control_of, core_of};
+ghost use Rattle.std.specs.Prelude.{◌≡◌, ◌%◌};
+ghost use Rattle.image.specs.Image.{control_of, core_of};
 ghost use Rattle.spi.specs.Instructions.{status_of, described, shown_hit, rx_status_of};
 
-use image::{CANINTF, RXB0CTRL, RXB1CTRL};
+use image::{CANINTF, Image, RXB0CTRL, RXB1CTRL};
 use registers::{Control, IDE, RX1IF, RXRTR, TX0IF, TX1IF, TX2IF, TXREQ, flag};
 
 // Where SIDL of RXB0 and RXB1 lies.
@@ -11,6 +11,7 @@ const RXB0SIDL: usize = 98;
 
 const RXB1SIDL: usize = 114;
 
+#[tactic(auto, unfolding(crate::specs::Instructions::status_of))]
 fn status_of(control: Control) -> u8
     ensures { result ≡ status_of control }
 {
@@ -24,11 +25,10 @@ fn status_of(control: Control) -> u8
     flag(flags % 2 == 1, 1) | (flag(flags / RX1IF % 2 == 1, 2) | first)
 }
 
-pub fn status(image: &[u8]) -> u8
-    requires { length image.now ≡ image_size }
+pub fn status(image: &Image) -> u8
     ensures { result ≡ status_of (control_of image.now) }
 {
-    status_of(image::control_of(image))
+    status_of(image::control::control_of(image))
 }
 
 fn describe(ctrl: u8, sidl: u8, filter: u8) -> u8
@@ -44,8 +44,7 @@ fn shown_hit(ctrl: u8) -> u8
     if hit < 2 { hit + 6 } else { hit }
 }
 
-pub fn rx_status(image: &[u8]) -> u8
-    requires { length image.now ≡ image_size }
+pub fn rx_status(image: &Image) -> u8
     ensures { result ≡ rx_status_of (core_of image.now) }
 {
     let flags = image[CANINTF];

@@ -1,18 +1,17 @@
 -- Laws of the calls of a C program that holds a chip. Assumes nothing.
-use mathlib.Core.Path.{◌≡◌, refl, ap, ◌∙◌}
+use mathlib.Core.Path.{◌≡◌, refl, sym, ap, ◌∙◌}
 use mathlib.Core.Bool.{Bool, true, false, cond}
 use mathlib.Core.List.{List, [], ◌∷◌}
 use Prim.Native.Nat.{ℕ, ◌<◌, ◌≤◌, ◌^◌}
 use native.Mathlib.Omega.{arith}
-use borrow.Author.Tests.{eqb-true, ltb-false}
+use borrow.Author.Tests.{eqb-true, ltb-false, lt-ltb}
 use lib.Dec.{eqb, ltb}
-use lib.IntN.{pos, neg_ℤ}
+use lib.IntN.{ℤ, pos, neg_ℤ}
 use lib.ListN.{length}
 use mir.Syntax.{w64}
-use mir.Val.{to_z, bool_byte}
-use mir.Facts.{to_z_pos}
-use Rattle.image.specs.Image.{is_chip, Answered}
-use Rattle.image.proofs.Laws.{chip_size}
+use mir.Val.{SFits, to_z, of_z, bool_byte}
+use mir.Facts.{to_z_pos, to_z-of_z}
+use Rattle.image.specs.Image.{is_chip}
 use Rattle.mcp2515.specs.declared.Stepped.{Stepped}
 use Rattle.mcp2515.specs.Step.{step_of, outcome_in}
 use Rattle.mcp2515.specs.ChipImage.{chip_of}
@@ -20,8 +19,13 @@ use Rattle.bus_log.specs.Log.{record_size, log_refusal, last_chip, answer_bytes,
 use Rattle.bus_log.specs.Run.{answer_size, answer_room, run_refusal}
 use Rattle.bus_log.specs.Held.{chip_refusal, held_refusal}
 use Rattle.bus_log.specs.From.{from_answers}
+use Rattle.bus_log.proofs.Helds.{no_chip, held_kept}
 use Rattle.bus_log.proofs.Steps.{one_step}
-use Rattle.stand_in.specs.StandIn.{record_refusal, step_answer, StepIsRun, held_answer, zero_or_one}
+use Rattle.stand_in.specs.StandIn.{record_refusal, step_refusal, step_result, step_answer, StepIsRun, StepHeld, held_answer, zero_or_one}
+
+-- what a function told as `i64`
+pub told : {r x : ℤ} → SFits w64 r → r ≡ x → to_z w64 (of_z w64 r) ≡ x
+told fits e = to_z-of_z {w = w64} fits ∙ e
 
 -- ---- the step
 no_test : (x y : Bool) → cond x (cond y room_refusal 0) length_refusal ≡ 0 → (x ≡ true) × (y ≡ false)
@@ -58,12 +62,26 @@ unfolding step_answer from_answers last_chip
 step_is_run wanted m r answer e =
     let same = one_refusal wanted (length r) (length answer) e in
     let one = one_step (chip_of m) r e in
-    (rw same, rw (same, e, one, one_answer wanted (step_of (chip_of m) r), room_one wanted), rw (e, one))
+    (rw same, rw (same, one, e, one_answer wanted (step_of (chip_of m) r), room_one wanted), rw one)
+
+-- a call that is refused with the number n
+pub step_refused : (wanted : Bool) (m r answer : List ℕ) (n : ℕ) (result : ℤ) → step_refusal wanted m r answer ≡ n → 0 < n → result ≡ neg_ℤ (pos n)
+    → StepHeld wanted m r answer m answer result
+unfolding step_result step_answer
+step_refused wanted m r answer n result same some told =
+    let t = lt-ltb 0 n some in
+    record {
+      result = told ∙ rw (same, t);
+      buffer = rw (same, t);
+      chip = held_kept (λ z. let none : n ≡ 0 = sym same ∙ z in omega arith);
+      kept = λ _. refl;
+      run = step_is_run;
+    }
 
 -- ---- what a chip answers
-pub held_value : (m : List ℕ) {x v o : ℕ} → is_chip m ≡ true → x < 2 ^ 63 → Answered m x v o → to_z w64 x ≡ held_answer m v
+pub held_value : (m : List ℕ) {x v : ℕ} → is_chip m ≡ true → x < 2 ^ 63 → x ≡ v → to_z w64 x ≡ held_answer m v
 unfolding held_answer held_refusal
-held_value m is small a = to_z_pos w64 small ∙ rw is (ap pos (a.image (chip_size m is)))
+held_value m is small e = to_z_pos w64 small ∙ rw is (ap pos e)
 
 -- a test as a number
 pub test_number : {b t : Bool} → b ≡ t → to_z w64 (bool_byte b) ≡ pos (zero_or_one t)
@@ -77,6 +95,6 @@ pub held_test : (m : List ℕ) {b t : Bool} → is_chip m ≡ true → b ≡ t �
 unfolding held_answer held_refusal
 held_test m is e = rw is (test_number e)
 
-pub no_value : (m : List ℕ) (v : ℕ) → is_chip m ≡ false → neg_ℤ (pos chip_refusal) ≡ held_answer m v
-unfolding held_answer held_refusal
-no_value m v is = rw is
+pub no_value : (m : List ℕ) (v : ℕ) → (is_chip m ≡ true → false ≡ true) → neg_ℤ (pos chip_refusal) ≡ held_answer m v
+unfolding held_answer
+no_value m v none = rw (no_chip m 0 none)

@@ -1,21 +1,22 @@
 -- A chip put back into the bytes that it came from, and what a load over them says. Assumes nothing.
 use mathlib.Core.Path.{◌≡◌, refl, sym, ap, ◌∙◌}
 use mathlib.Core.Bool.{Bool, true, false, cond}
-use mathlib.Core.List.{List, [], ◌∷◌, ◌++◌, append-nil}
-use Prim.Native.Nat.{ℕ, ◌+◌, ◌<◌, ◌≤◌}
-use native.Mathlib.Nat.{zero-add}
+use mathlib.Core.List.{List, [], ◌∷◌}
+use Prim.Native.Nat.{ℕ, ◌<◌, ◌≤◌}
 use native.Mathlib.Omega.{arith}
 use lib.Dec.{eqb, ltb}
 use lib.IntN.{ℤ, pos, neg_ℤ}
-use lib.ListN.{length, get_or, set, take, drop, length-set, drop_of_length-le}
+use lib.ListN.{length, get_or, set, drop, length-set, drop_of_length-le}
 use lib.Seq.{sets, length-take-le, drop-cons, get_or-set_same, get_or-set_other}
 use borrow.Author.Tests.{eqb-true, eqb-false, lt-ltb, le-ltb}
+use Rattle.records.specs.declared.Refusal.{Refusal}
+use Rattle.records.specs.Records.{refusal_number}
+use Rattle.records.proofs.Refusals.{number_some}
 use Rattle.image.specs.Image.{image_size, is_chip}
 use Rattle.image.proofs.Laws.{chip_size}
 use Rattle.spi.proofs.Turns.{select_core}
 use Rattle.mcp2515.specs.declared.Chip.{Chip}
 use Rattle.mcp2515.specs.ChipImage.{chip_of, Packed, Moved}
-use Rattle.mcp2515.proofs.Images.{one_more}
 use Rattle.spi.proofs.Clash.{clash}
 use Rattle.bus_log.specs.Run.{call_result}
 use Rattle.bus_log.specs.Held.{held_refusal}
@@ -23,20 +24,13 @@ use Rattle.bus_log.proofs.Copy.{sets_first}
 use Rattle.bus_log.proofs.Helds.{held_moved, held_kept}
 use Rattle.load_machine.specs.declared.Verdict.{Verdict}
 use Rattle.load_machine.specs.declared.Verdict.TheVariants.{Refused, Waiting, In}
-use Rattle.load_machine.specs.declared.Stage.TheVariants.{Ended}
-use Rattle.load_machine.specs.Profile.{profile_size}
-use Rattle.load_rules.specs.Load.{Progress, load_of, verdict_in}
+use Rattle.load_rules.specs.Load.{load_of, verdict_in}
 use Rattle.load_rules.specs.Laws.{reaches, refusal_of_load, IsWhole}
 use Rattle.load_rules.proofs.AllLaws.{load_laws}
 use Rattle.profile_loader.specs.Gaps.{gaps_of, entries_in}
 use Rattle.profile_loader.specs.Running.{run_of}
 use Rattle.stand_in.specs.StandIn.{short_refusal, zero_or_one}
 use Rattle.stand_in.specs.LoadCalls.{lengths_refusal, goes_in, load_result, LoadCall, sent_bytes, records_result, records_after, result_of, is_refused, LoadHeld, SentHeld}
-
--- ---- bytes copied one by one
-pub copied_more : (src dst : List ℕ) (i : ℕ) → i < length dst → i < length src → take i dst ≡ take i src
-    → take (i + 1) (set dst i (get_or src i 0)) ≡ take (i + 1) src
-copied_more src dst i h l e = rw (zero-add i) at (one_more src dst 0 i h (rw (zero-add i) l) e)
 
 -- ---- a chip is read from the first 150 bytes
 spare_set : (m : List ℕ) (i v : ℕ) → 150 ≤ i → chip_of (set m i v) ≡ chip_of m
@@ -54,25 +48,23 @@ two_left : (m : List ℕ) → length m ≡ image_size → drop 150 m ≡ get_or 
 two_left m h =
     drop-cons m 150 0 (omega arith) ∙ ap (λ (l : List ℕ). get_or m 150 0 ∷ l) (drop-cons m 151 0 (omega arith) ∙ ap (λ (l : List ℕ). get_or m 151 0 ∷ l) (drop_of_length-le m {i = 152} (omega arith)))
 
--- a packed chip with the two of m behind it, stored over m
-pub put_back : (m image n : List ℕ) (c : Chip) → length m ≡ image_size → Packed image c
-    → n ≡ sets m 0 (set (set image 150 (get_or m 150 0)) 151 (get_or m 151 0)) → Moved m n c
-put_back m image n c h k e =
+-- a packed chip with the two of m behind it
+pub put_back : (m image : List ℕ) (c : Chip) → length m ≡ image_size → Packed image c
+    → Moved m (set (set image 150 (get_or m 150 0)) 151 (get_or m 151 0)) c
+put_back m image c h k =
     let i : List ℕ = set (set image 150 (get_or m 150 0)) 151 (get_or m 151 0) in
     let size : length i ≡ image_size = length-set (set image 150 (get_or m 150 0)) 151 (get_or m 151 0) ∙ length-set image 150 (get_or m 150 0) ∙ k.size in
     let first : length (set image 150 (get_or m 150 0)) ≡ image_size = length-set image 150 (get_or m 150 0) ∙ k.size in
-    let is : n ≡ i = e ∙ sets_first i m (omega arith) ∙ ap (λ (l : List ℕ). i ++ l) (drop_of_length-le m {i = length i} (omega (arith, size, h))) ∙ append-nil i in
     let second : get_or i 151 0 ≡ get_or m 151 0 = get_or-set_same (set image 150 (get_or m 150 0)) 151 (get_or m 151 0) 0 (omega arith) in
     let spare : get_or i 150 0 ≡ get_or m 150 0
     = get_or-set_other (set image 150 (get_or m 150 0)) 151 150 (get_or m 151 0) 0 (λ z. omega (arith, z)) ∙ get_or-set_same image 150 (get_or m 150 0) 0 (omega (arith, k.size)) in
-    rw is
-    (record {
+    record {
       packed = record {
         size = size;
         chip = spare_set (set image 150 (get_or m 150 0)) 151 (get_or m 151 0) (omega arith) ∙ spare_set image 150 (get_or m 150 0) (omega arith) ∙ k.chip;
       };
       spare = two_left i size ∙ rw (spare, second) (sym (two_left m h));
-    })
+    }
 
 -- ---- what a load says
 not_zero : (n : ℕ) → (n ≡ 0 → ⊥) → 0 < n
@@ -81,37 +73,35 @@ not_zero n h = omega (arith, h)
 whole_chip : (m : List ℕ) → length m ≡ image_size → IsWhole (chip_of m)
 whole_chip m h = length-take-le 48 m (omega arith)
 
-abbrev said_by : ℕ → Bool → Verdict
-said_by n b = cond (eqb n 0) (cond b In Waiting) (Refused n)
+-- of a load that is refused by the number n, and else goes in or waits
+record Said (n : ℕ) (b : Bool) (v : Verdict) : Type 0 where
+  result : result_of v ≡ call_result n (zero_or_one b)
+  refused : is_refused v ≡ true → n ≡ 0 → ⊥
+  accepted : is_refused v ≡ false → n ≡ 0
 
-said : (c : Chip) (p : List ℕ) (g : ℕ → List (List ℕ)) → IsWhole c → (load_of c p g).stage ≡ Ended (said_by (refusal_of_load c p) (reaches c g))
+said_taken : (b : Bool) → Said 0 b (cond b In Waiting)
+said_taken true = record { result = refl; refused = λ e. clash (sym e); accepted = λ _. refl }
+said_taken false = record { result = refl; refused = λ e. clash (sym e); accepted = λ _. refl }
+
+said_refused : (n : ℕ) (b : Bool) (e : Refusal) → refusal_number e ≡ n → Said n b (Refused e)
+said_refused n b e p =
+    let some : n ≡ 0 → ⊥ = λ z. number_some e (p ∙ z) in
+    record {
+      result = rw (p, lt-ltb 0 n (not_zero n some));
+      refused = λ _. some;
+      accepted = λ f. clash f;
+    }
+
+said : (c : Chip) (p : List ℕ) (g : ℕ → List (List ℕ)) → IsWhole c → Said (refusal_of_load c p) (reaches c g) (verdict_in (load_of c p g).stage)
 said c p g whole = go (eqb (refusal_of_load c p) 0) refl
   where
-    go : (b : Bool) → eqb (refusal_of_load c p) 0 ≡ b → (load_of c p g).stage ≡ Ended (said_by (refusal_of_load c p) (reaches c g))
-    go true e = rw e (load_laws.accepted c p g whole (eqb-true (refusal_of_load c p) 0 e)).verdict
-    go false e = rw e (ap (λ (s : Progress). s.stage) (load_laws.refused c p g (eqb-false (refusal_of_load c p) 0 e)))
-
-said_result : (n : ℕ) (b : Bool) → result_of (said_by n b) ≡ call_result n (zero_or_one b)
-said_result n b = go (eqb n 0) refl b
-  where
-    go : (x : Bool) → eqb n 0 ≡ x → (b : Bool) → result_of (said_by n b) ≡ call_result n (zero_or_one b)
-    go true e true = rw (eqb-true n 0 e)
-    go true e false = rw (eqb-true n 0 e)
-    go false e b = let none = eqb-false n 0 e in rw (e, lt-ltb 0 n (not_zero n none))
-
-said_refused : (n : ℕ) (b : Bool) → is_refused (said_by n b) ≡ true → n ≡ 0 → ⊥
-said_refused n b e z = go b (rw z at e)
-  where
-    go : (b : Bool) → is_refused (cond b In Waiting) ≡ true → ⊥
-    go true e = clash (sym e)
-    go false e = clash (sym e)
-
-said_accepted : (n : ℕ) (b : Bool) → is_refused (said_by n b) ≡ false → n ≡ 0
-said_accepted n b e = go (eqb n 0) refl
-  where
-    go : (x : Bool) → eqb n 0 ≡ x → n ≡ 0
-    go true f = eqb-true n 0 f
-    go false f = clash (rw f at e)
+    go : (b : Bool) → eqb (refusal_of_load c p) 0 ≡ b → Said (refusal_of_load c p) (reaches c g) (verdict_in (load_of c p g).stage)
+    go true e =
+        let none = eqb-true (refusal_of_load c p) 0 e in
+        rw (none, (load_laws.accepted c p g whole none).verdict) (said_taken (reaches c g))
+    go false e =
+        let x = load_laws.refused c p g (eqb-false (refusal_of_load c p) 0 e) in
+        rw x.load (said_refused (refusal_of_load c p) (reaches c g) x.refusal x.number)
 
 -- ---- both calls, over a chip m
 module _ (m p events : List ℕ) (is : is_chip m ≡ true) where
@@ -121,18 +111,21 @@ module _ (m p events : List ℕ) (is : is_chip m ≡ true) where
   abbrev refusal : ℕ
   refusal = refusal_of_load here p
 
-  said_here : verdict_in (run_of here p events).stage ≡ said_by refusal (goes_in m events)
-  said_here = ap verdict_in (said here p (gaps_of (entries_in events)) (whole_chip m (chip_size m is)))
+  said_here : Said refusal (goes_in m events) (verdict_in (run_of here p events).stage)
+  said_here = said here p (gaps_of (entries_in events)) (whole_chip m (chip_size m is))
 
   module _ (v : Verdict) (e : v ≡ verdict_in (run_of here p events).stage) where
+    said_v : Said refusal (goes_in m events) v
+    said_v = rw e said_here
+
     refused_here : is_refused v ≡ true → refusal ≡ 0 → ⊥
-    refused_here r = said_refused refusal (goes_in m events) (rw (e ∙ said_here) at r)
+    refused_here = said_v.refused
 
     accepted_here : is_refused v ≡ false → refusal ≡ 0
-    accepted_here r = said_accepted refusal (goes_in m events) (rw (e ∙ said_here) at r)
+    accepted_here = said_v.accepted
 
     result_here : result_of v ≡ call_result refusal (zero_or_one (goes_in m events))
-    result_here = ap result_of (e ∙ said_here) ∙ said_result refusal (goes_in m events)
+    result_here = said_v.result
 
     pub load_refused : (r : ℤ) → r ≡ result_of v → is_refused v ≡ true → LoadHeld m p events m r
     load_refused r f x = record { result = f ∙ result_here; chip = held_kept (refused_here x) }
@@ -167,22 +160,14 @@ module _ (m p events : List ℕ) where
   abbrev first : ℕ
   first = held_refusal m (lengths_refusal (length p) (length events))
 
-  pub right_lengths : lengths_refusal (length p) (length events) ≡ 0 → length p ≡ profile_size
-  unfolding lengths_refusal
-  right_lengths e = go (eqb (length p) profile_size) refl
-    where
-      go : (b : Bool) → eqb (length p) profile_size ≡ b → length p ≡ profile_size
-      go true f = eqb-true (length p) profile_size f
-      go false f = absurd (omega (arith, rw f at e))
-
-  pub call_refused : (r : ℤ) → r ≡ neg_ℤ (pos first) → 0 < first → LoadCall m p events m r
+  pub call_refused : (n : ℕ) (r : ℤ) → first ≡ n → 0 < n → r ≡ neg_ℤ (pos n) → LoadCall m p events m r
   unfolding load_result
-  call_refused r f l =
-      let some : ltb 0 first ≡ true = lt-ltb 0 first l in
+  call_refused n r same l f =
+      let some : ltb 0 n ≡ true = lt-ltb 0 n l in
       record {
-        result = f ∙ rw (some, some);
-        chip = held_kept (λ z. omega (arith, l, rw some at z));
-        laws = λ z. absurd (omega (arith, l, rw some at z));
+        result = f ∙ rw (same, some, some);
+        chip = held_kept (λ z. omega (arith, l, rw (same, some) at z));
+        laws = λ z. absurd (omega (arith, l, rw (same, some) at z));
       }
 
   pub call_taken : (n : List ℕ) (r : ℤ) → first ≡ 0 → is_chip m ≡ true → LoadHeld m p events n r → LoadCall m p events n r
@@ -194,12 +179,12 @@ module _ (m p events : List ℕ) where
         laws = λ z. load_laws.accepted (chip_of m) p (gaps_of (entries_in events)) (whole_chip m (chip_size m is)) (rw e at z);
       }
 
-  pub sent_refused : (room : List ℕ) (r : ℤ) → r ≡ neg_ℤ (pos first) → 0 < first
+  pub sent_refused : (room : List ℕ) (n : ℕ) (r : ℤ) → first ≡ n → 0 < n → r ≡ neg_ℤ (pos n)
       → (r ≡ records_result m p events (length room)) × (room ≡ records_after m p events room)
   unfolding records_result records_after
-  sent_refused room r f l =
-      let some : ltb 0 first ≡ true = lt-ltb 0 first l in
-      (f ∙ rw (some, some, some), rw (some, some, some))
+  sent_refused room n r same l f =
+      let some : ltb 0 n ≡ true = lt-ltb 0 n l in
+      (f ∙ rw (same, some, some, some), rw (same, some, some, some))
 
   pub sent_taken : (room after : List ℕ) (r : ℤ) → first ≡ 0 → SentHeld m p events room after r
       → (r ≡ records_result m p events (length room)) × (after ≡ records_after m p events room)

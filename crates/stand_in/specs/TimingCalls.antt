@@ -1,8 +1,8 @@
 -- The calls for C on bit timing, of three bytes and of a plan that is written to them. Assumes nothing: these are definitions.
-use Rattle.std.specs.Prelude.{◌≡◌, cond, List, [], ◌∷◌, ◌++◌, ℕ, ltb, ℤ, length, drop}
+use Rattle.std.specs.Prelude.{◌≡◌, cond, List, [], ◌∷◌, ◌++◌, ℕ, ltb, ℤ, length, drop, Option, Some, None, Result, Ok, Err}
+use Rattle.records.specs.declared.Refusal.{Refusal}
 use Rattle.bit_timing.specs.declared.Setting.{Setting}
 use Rattle.bit_timing.specs.declared.Planned.{Planned}
-use Rattle.bit_timing.specs.declared.Planned.TheVariants.{Refused, None, Found}
 use Rattle.bit_timing.specs.Timing.{plan_refusal, Planning}
 use Rattle.bus_log.specs.Log.{first_refusal}
 use Rattle.bus_log.specs.Run.{call_result}
@@ -29,20 +29,20 @@ abbrev pub plan_call_refusal : ℕ → ℕ → ℕ → ℕ
 plan_call_refusal oscillator rate room = first_refusal (plan_refusal oscillator rate) (setting_refusal room)
 
 -- what the call returns where it is not refused: 3, or 0 where there is no plan
-abbrev pub plan_value : Planned → ℕ
-plan_value (Refused n) = 0
-plan_value None = 0
-plan_value (Found s difference) = setting_size
+abbrev pub plan_value : Result (Option Planned) Refusal → ℕ
+plan_value (Err e) = 0
+plan_value (Ok None) = 0
+plan_value (Ok (Some plan)) = setting_size
 
 -- the room cnf after it
-abbrev pub plan_after : Planned → List ℕ → List ℕ
-plan_after (Refused n) cnf = cnf
-plan_after None cnf = cnf
-plan_after (Found s difference) cnf = setting_after s cnf
+abbrev pub plan_after : Result (Option Planned) Refusal → List ℕ → List ℕ
+plan_after (Err e) cnf = cnf
+plan_after (Ok None) cnf = cnf
+plan_after (Ok (Some plan)) cnf = setting_after plan.setting cnf
 
 -- what the call promises: its result x, and after, what the room cnf holds then, are those of the one plan that the rules fix
 pub record PlanCall (oscillator rate : ℕ) (cnf after : List ℕ) (x : ℤ) : Type 0 where
-  pub plan : Planned
+  pub plan : Result (Option Planned) Refusal
   pub planned : Planning oscillator rate plan
   pub result : x ≡ call_result (plan_call_refusal oscillator rate (length cnf)) (plan_value plan)
   pub buffer : after ≡ plan_after plan cnf

@@ -5,8 +5,8 @@
 
 mod loads;
 
-ghost use Rattle.std.specs.Prelude.{◌≡◌, true, false, ◌≤◌, length, pos};
-ghost use Rattle.std.proofs.lemmas.List.Edits.{sets};
+ghost use Rattle.std.specs.Prelude.{◌≡◌, true, false, length, pos, neg_ℤ};
+ghost use Rattle.records.specs.Records.{refusal_number, refusal_in};
 ghost use Rattle.registers.specs.Registers.{holds, reads, int_is_low};
 ghost use Rattle.mcp2515.specs.ChipImage.{chip_of};
 ghost use Rattle.bus_log.specs.Run.{call_result, run_result, run_answers};
@@ -32,25 +32,19 @@ ghost use Rattle.stand_in.specs.TimingCalls.{
   PlanCall,
 };
 
-use bit_timing::{Planned, Setting};
-use bus_log::{CHIP_REFUSAL, LENGTH_REFUSAL, RECORD_SIZE, ROOM_REFUSAL};
+use bit_timing::Setting;
+use bus_log::RECORD_SIZE;
 use image::SIZE;
-
-// Too little room for a chip, or for CNF1 to CNF3.
-const SHORT_REFUSAL: u8 = 19;
+use records::Refusal;
 
 // CNF1, CNF2, CNF3.
 const SETTING_SIZE: usize = 3;
 
-fn put_first<'a>(room: &'a mut [u8], bytes: &'a [u8])
-    requires { length bytes.now ≤ length room.old }
-    ensures { room.new ≡ sets room.old 0 bytes.now }
+// What a refused call returns to C.
+fn refused(refusal: Refusal) -> i64
+    ensures { result ≡ neg_ℤ (pos (refusal_number refusal)) }
 {
-    let mut i = 0;
-    while i < bytes.len() {
-        room[i] = bytes[i];
-        i += 1;
-    }
+    bus_log::minus(refusal.number())
 }
 
 // A chip as power-on leaves it: returns the bytes used, or changes nothing and returns minus 19.
@@ -59,36 +53,37 @@ pub extern "C" fn mcp2515_power_on(chip: &mut [u8]) -> i64
     ensures result { result ≡ power_result chip.old }
     ensures bytes { (chip.new ≡ power_bytes chip.old) × PowerOnHeld }
 {
-    if chip.len() < SIZE {
-        return bus_log::minus(SHORT_REFUSAL);
-    }
-    let image = image::power_on();
-    put_first(chip, &image);
+    let Some(first) = chip.first_chunk_mut::<SIZE>() else {
+        return refused(Refusal::Short);
+    };
+    *first = image::power_on();
     SIZE as i64
 }
 
-// Why a record of size bytes, with room for so many answer bytes, is refused; 0 where it is not.
-fn record_refusal(size: usize, room: usize, wanted: bool) -> u8
-    ensures { result ≡ record_refusal wanted size room }
+// Whether a record of size bytes, with room for so many answer bytes, is taken.
+fn check_record(size: usize, room: usize, wanted: bool) -> Result<(), Refusal>
+    ensures { refusal_in result ≡ record_refusal wanted size room }
 {
     if size != RECORD_SIZE {
-        return LENGTH_REFUSAL;
+        Err(Refusal::Length)
+    } else if room < bus_log::answer_size(wanted) {
+        Err(Refusal::Room)
+    } else {
+        Ok(())
     }
-    if room < bus_log::answer_size(wanted) {
-        return ROOM_REFUSAL;
-    }
-    0
 }
 
-// One record, as a log of its own.
+// One record, as a log of its own; with its set where that is wanted, which is an argument as it is of `run_from`.
 fn step<'a>(chip: &'a mut [u8], record: &'a [u8], answer: &'a mut [u8], wanted: bool) -> i64
     ensures { StepHeld wanted chip.old «record».now answer.old chip.new answer.new result }
 {
-    let refusal = bus_log::held_refusal(chip, record_refusal(record.len(), answer.len(), wanted));
-    if refusal > 0 {
-        return bus_log::minus(refusal);
+    let Some(image) = image::as_mut_chip(chip) else {
+        return refused(Refusal::Chip);
+    };
+    if let Err(refusal) = check_record(record.len(), answer.len(), wanted) {
+        return refused(refusal);
     }
-    bus_log::run_from(chip, record, answer, wanted);
+    bus_log::run_from(image, record, answer, wanted);
     bus_log::answer_size(wanted) as i64
 }
 
@@ -172,41 +167,46 @@ pub extern "C" fn mcp2515_render<'a>(
 pub extern "C" fn mcp2515_part_refusal(number: u32, size: usize) -> i64
     ensures { result ≡ pos (stretch_refusal number size) }
 {
-    log_text::end_refusal(number, size) as i64
+    match log_text::end_refusal(number, size) {
+        Ok(()) => 0,
+        Err(refusal) => i64::from(refusal.number()),
+    }
 }
 
 // What an address holds.
+#[tactic(auto, using(crate::proofs::Calls::held_value, crate::proofs::Calls::no_value))]
 #[unsafe(no_mangle)]
 pub extern "C" fn mcp2515_hold(chip: &[u8], address: u8) -> i64
     ensures { result ≡ held_answer chip.now (holds (chip_of chip.now).core address) }
 {
-    if image::is_chip(chip) {
-        return image::hold(chip, address) as i64;
-    }
-    bus_log::minus(CHIP_REFUSAL)
+    let Some(image) = image::as_chip(chip) else {
+        return refused(Refusal::Chip);
+    };
+    i64::from(image::addresses::hold(image, address))
 }
 
 // What a READ of an address replies.
+#[tactic(auto, using(crate::proofs::Calls::held_value, crate::proofs::Calls::no_value))]
 #[unsafe(no_mangle)]
 pub extern "C" fn mcp2515_read(chip: &[u8], address: u8) -> i64
     ensures { result ≡ held_answer chip.now (reads (chip_of chip.now).core address) }
 {
-    if image::is_chip(chip) {
-        return image::read(chip, address) as i64;
-    }
-    bus_log::minus(CHIP_REFUSAL)
+    let Some(image) = image::as_chip(chip) else {
+        return refused(Refusal::Chip);
+    };
+    i64::from(image::addresses::read(image, address))
 }
 
 // Whether the INT line is low: 1 or 0.
+#[tactic(auto, using(crate::proofs::Calls::held_test, crate::proofs::Calls::no_value))]
 #[unsafe(no_mangle)]
 pub extern "C" fn mcp2515_int_is_low(chip: &[u8]) -> i64
     ensures { result ≡ held_answer chip.now (zero_or_one (int_is_low (chip_of chip.now).core.control)) }
 {
-    if image::is_chip(chip) {
-        let control = image::control_of(chip);
-        return registers::int_is_low(control) as i64;
-    }
-    bus_log::minus(CHIP_REFUSAL)
+    let Some(image) = image::as_chip(chip) else {
+        return refused(Refusal::Chip);
+    };
+    i64::from(registers::int_is_low(image::control::control_of(image)))
 }
 
 // The rules of bit timing that three bytes break, a bit for each.
@@ -214,7 +214,7 @@ pub extern "C" fn mcp2515_int_is_low(chip: &[u8]) -> i64
 pub extern "C" fn mcp2515_timing_faults(cnf1: u8, cnf2: u8, cnf3: u8) -> i64
     ensures { result ≡ pos (faults_of (setting_by cnf1 cnf2 cnf3)) }
 {
-    bit_timing::faults(Setting { cnf1, cnf2, cnf3 }) as i64
+    i64::from(bit_timing::faults(Setting { cnf1, cnf2, cnf3 }))
 }
 
 // Whether three bytes keep all of them: 1 or 0.
@@ -222,7 +222,7 @@ pub extern "C" fn mcp2515_timing_faults(cnf1: u8, cnf2: u8, cnf3: u8) -> i64
 pub extern "C" fn mcp2515_check_timing(cnf1: u8, cnf2: u8, cnf3: u8) -> i64
     ensures { result ≡ pos (zero_or_one (is_sound (setting_by cnf1 cnf2 cnf3))) }
 {
-    bit_timing::check(Setting { cnf1, cnf2, cnf3 }) as i64
+    i64::from(bit_timing::check(Setting { cnf1, cnf2, cnf3 }))
 }
 
 // Oscillator less what the bit rate would need, with its sign.
@@ -244,10 +244,10 @@ fn put_setting(room: &mut [u8], setting: Setting) -> i64
     ensures result { result ≡ call_result (setting_refusal (length room.old)) setting_size }
     ensures bytes { room.new ≡ setting_after setting room.old }
 {
-    if room.len() < SETTING_SIZE {
-        return bus_log::minus(SHORT_REFUSAL);
-    }
-    put_first(room, &[setting.cnf1, setting.cnf2, setting.cnf3]);
+    let Some(first) = room.first_chunk_mut::<SETTING_SIZE>() else {
+        return refused(Refusal::Short);
+    };
+    *first = [setting.cnf1, setting.cnf2, setting.cnf3];
     SETTING_SIZE as i64
 }
 
@@ -257,16 +257,11 @@ fn put_setting(room: &mut [u8], setting: Setting) -> i64
 pub extern "C" fn mcp2515_plan_timing(oscillator: u32, rate: u32, cnf: &mut [u8]) -> i64
     ensures { PlanCall oscillator rate cnf.old cnf.new result }
 {
-    let plan = bit_timing::plan(oscillator, rate);
-    match plan {
-        Planned::Refused(refusal) => bus_log::minus(refusal),
-        Planned::None => {
-            if cnf.len() < SETTING_SIZE {
-                return bus_log::minus(SHORT_REFUSAL);
-            }
-            0
-        }
-        Planned::Found(setting, _) => put_setting(cnf, setting),
+    match bit_timing::plan(oscillator, rate) {
+        Err(refusal) => refused(refusal),
+        Ok(None) if cnf.len() < SETTING_SIZE => refused(Refusal::Short),
+        Ok(None) => 0,
+        Ok(Some(plan)) => put_setting(cnf, plan.setting),
     }
 }
 
@@ -280,12 +275,13 @@ pub extern "C" fn mcp2515_load_profile<'a>(
 ) -> i64
     ensures { LoadCall chip.old profile.now events.now chip.new result }
 {
-    let lengths = loads::lengths_refusal(profile.len(), events.len());
-    let refusal = bus_log::held_refusal(chip, lengths);
-    if refusal > 0 {
-        return bus_log::minus(refusal);
+    let Some(image) = image::as_mut_chip(chip) else {
+        return refused(Refusal::Chip);
+    };
+    match loads::sized(profile, events) {
+        Ok(profile) => loads::load_profile(image, profile, events),
+        Err(refusal) => refused(refusal),
     }
-    loads::load_profile(chip, profile, events)
 }
 
 // The records of that load: stores them and returns how many, or changes nothing and returns minus the refusal.
@@ -299,10 +295,11 @@ pub extern "C" fn mcp2515_load_records<'a>(
     ensures result { result ≡ records_result chip.now profile.now events.now (length records.old) }
     ensures buffer { records.new ≡ records_after chip.now profile.now events.now records.old }
 {
-    let lengths = loads::lengths_refusal(profile.len(), events.len());
-    let refusal = bus_log::held_refusal(chip, lengths);
-    if refusal > 0 {
-        return bus_log::minus(refusal);
+    let Some(image) = image::as_chip(chip) else {
+        return refused(Refusal::Chip);
+    };
+    match loads::sized(profile, events) {
+        Ok(profile) => loads::load_records(image, profile, events, records),
+        Err(refusal) => refused(refusal),
     }
-    loads::load_records(chip, profile, events, records)
 }

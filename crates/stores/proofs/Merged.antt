@@ -1,6 +1,6 @@
 -- A store into the image is the store of the rules on the core that it stands for. Assumes nothing.
 use mathlib.Core.Path.{◌≡◌, refl, ap, sym, subst}
-use mathlib.Core.Bool.{Bool, true, false, cond, not, ◌&&◌, ◌||◌}
+use mathlib.Core.Bool.{Bool, true, false, not, ◌&&◌, ◌||◌}
 use mathlib.Core.List.{List}
 use Prim.Native.Nat.{ℕ, zero, suc, ◌+◌, ◌%◌, ◌<◌}
 use native.Mathlib.Omega.{arith}
@@ -19,7 +19,7 @@ use Rattle.image.specs.Image.{image_size, mode_of, flight_of, decoded, control_o
 use Rattle.image.proofs.Laws.{tx_below, config_set, tx_set, unmarked, mark_one, marked, became_low}
 use Rattle.image.proofs.Places.{config_byte, tx_byte}
 use Rattle.registers.proofs.Regions.{inside_of, message_above, message_below}
-use Rattle.stores.specs.Store.{is_locked, requested_of, requested_to_send, stored_in}
+use Rattle.stores.specs.Store.{is_locked, tx_stored, tx_control_stored, requested_of, requested_to_send, stored_in}
 use Rattle.stores.specs.Merging.{merges_in, takes_write}
 
 -- ---- tests that antt has computed
@@ -177,50 +177,13 @@ stored_merged m a v l h = go (region_of a) refl
     go (RxCtrl b) e p = let z : true ≡ false = sym p in absurd (subst T z tt)
     go RxMessage e p = let z : true ≡ false = sym p in absurd (subst T z tt)
 
-pub buffer_number : (a : ℕ) → cond (ltb a 0x40) 0 (cond (ltb a 0x50) 1 2) ≡ tx_number (tx_at a)
-buffer_number a = go (ltb a 0x40) (ltb a 0x50)
-  where
-    go : (x y : Bool) → cond x 0 (cond y 1 2) ≡ tx_number (cond x Txb0 (cond y Txb1 Txb2))
-    go true y = refl
-    go false true = refl
-    go false false = refl
-
--- ---- TEC, REC, CANSTAT and received messages take no write
-abbrev stays : Region → Bool
-stays Filters = true
-stays Masks = true
-stays Configured = true
-stays Bfpctrl = true
-stays Txrtsctrl = true
-stays Tec = true
-stays Rec = true
-stays Caninte = true
-stays Canintf = true
-stays Eflg = true
-stays Canstat = true
-stays Canctrl = false
-stays (TxCtrl b) = false
-stays (TxMessage b) = true
-stays (RxCtrl b) = false
-stays RxMessage = true
-
-pub untouched : (g : Region) (m : List ℕ) (a v : ℕ) → length m ≡ image_size → merges_in g ≡ false → T (stays g) → Became m m (stored_in g (core_of m) a v)
-untouched Filters m a v l p t = absurd (subst T p tt)
-untouched Masks m a v l p t = absurd (subst T p tt)
-untouched Configured m a v l p t = absurd (subst T p tt)
-untouched Bfpctrl m a v l p t = absurd (subst T p tt)
-untouched Txrtsctrl m a v l p t = absurd (subst T p tt)
-untouched Tec m a v l p t = record { size = l; core = refl; rest = refl }
-untouched Rec m a v l p t = record { size = l; core = refl; rest = refl }
-untouched Caninte m a v l p t = absurd (subst T p tt)
-untouched Canintf m a v l p t = absurd (subst T p tt)
-untouched Eflg m a v l p t = absurd (subst T p tt)
-untouched Canstat m a v l p t = record { size = l; core = refl; rest = refl }
-untouched Canctrl m a v l p t = absurd t
-untouched (TxCtrl b) m a v l p t = absurd t
-untouched (TxMessage b) m a v l p t = absurd (subst T p tt)
-untouched (RxCtrl b) m a v l p t = absurd t
-untouched RxMessage m a v l p t = record { size = l; core = refl; rest = refl }
+-- ---- a store to TXBnCTRL changes that byte alone
+pub stored_one : (m : List ℕ) (b : TxBuffer) (v : ℕ) → length m ≡ image_size
+    → Became m (set m (132 + tx_number b) (tx_stored (control_of m) (get_or m (132 + tx_number b) 0) v)) (with_control (core_of m) (tx_control_stored (control_of m) b v))
+unfolding decoded
+stored_one m Txb0 v l = marked (mark_one (unmarked m l) 132 _ (omega arith) (omega arith)) _ refl
+stored_one m Txb1 v l = marked (mark_one (unmarked m l) 133 _ (omega arith) (omega arith)) _ refl
+stored_one m Txb2 v l = marked (mark_one (unmarked m l) 134 _ (omega arith) (omega arith)) _ refl
 
 -- ---- RTS of one buffer changes its TXBnCTRL alone
 pub requested_one : (m : List ℕ) (b : TxBuffer) → length m ≡ image_size

@@ -17,7 +17,7 @@ ghost use Rattle.stores.specs.Store.{
 };
 
 use registers::{
-    ABAT, ABTF, BUKT, BUKT1, Control, MLOA, RxBuffer, TXERR, TXREQ, TxBuffer, TxControl,
+    ABAT, ABTF, BUKT, BUKT1, Control, Flags, MLOA, RxBuffer, TXERR, TXREQ, TxBuffer, TxControl,
 };
 
 // TXP, the two bits of TXBnCTRL that rank a message.
@@ -37,8 +37,7 @@ pub fn mask_at(at: u8) -> u8
     requires { at < 128 }
     ensures { result ≡ writable_of at }
 {
-    let i = at as usize;
-    WRITABLE[i]
+    WRITABLE[at as usize]
 }
 
 fn has_txreq(ctrl: u8) -> bool
@@ -68,12 +67,14 @@ fn tx_bits(control: Control, old: u8) -> u8
     )
 }
 
+#[tactic(auto, unfolding(crate::specs::Store::tx_stored))]
 pub fn tx_stored(control: Control, old: u8, value: u8) -> u8
     ensures { result ≡ tx_stored control old value }
 {
     raised_from(old, bits::merge(tx_bits(control, old), old, value))
 }
 
+#[tactic(auto, unfolding(crate::specs::Store::requested_of))]
 pub fn requested_of(control: Control, old: u8) -> u8
     ensures { result ≡ requested_of control old }
 {
@@ -91,65 +92,61 @@ fn requested_if(on: bool, control: Control, old: u8) -> u8
 }
 
 // RTS for the buffers of bits 0 to 2.
+#[tactic(auto, unfolding(crate::specs::Store::requested_to_send))]
 pub fn requested_to_send(control: Control, buffers: u8) -> Control
     ensures { result ≡ requested_to_send control buffers }
 {
     let tx = control.tx;
-    let x = requested_if(buffers % 2 == 1, control, tx.txb0);
-    let y = requested_if(buffers / 2 % 2 == 1, control, tx.txb1);
-    let z = requested_if(buffers / 4 % 2 == 1, control, tx.txb2);
-    let new = TxControl {
-        txb0: x,
-        txb1: y,
-        txb2: z,
-    };
-    let mut next = control;
-    next.tx = new;
-    next
+    Control {
+        tx: TxControl {
+            txb0: requested_if(buffers % 2 == 1, control, tx.txb0),
+            txb1: requested_if(buffers / 2 % 2 == 1, control, tx.txb1),
+            txb2: requested_if(buffers / 4 % 2 == 1, control, tx.txb2),
+        },
+        ..control
+    }
 }
 
 fn aborted_at(control: Control, buffer: TxBuffer) -> u8
     ensures { result ≡ aborted_at control buffer }
 {
-    let tx = control.tx;
-    let state = control.state;
-    let flight = state.flight;
-    let ctrl = registers::tx_control(tx, buffer);
+    let ctrl = registers::tx_control(control.tx, buffer);
     bits::choose(
-        has_txreq(ctrl) & !registers::in_flight(flight, buffer),
+        has_txreq(ctrl) & !registers::in_flight(control.state.flight, buffer),
         (ctrl & !TXREQ) | ABTF,
         ctrl,
     )
 }
 
 // ABAT: every TXREQ that is not in flight goes, with its ABTF.
+#[tactic(auto, unfolding(crate::specs::Store::aborted))]
 fn aborted_all(control: Control) -> Control
     ensures { result ≡ aborted control }
 {
-    let x = aborted_at(control, TxBuffer::Txb0);
-    let y = aborted_at(control, TxBuffer::Txb1);
-    let z = aborted_at(control, TxBuffer::Txb2);
-    let new = TxControl {
-        txb0: x,
-        txb1: y,
-        txb2: z,
-    };
-    let mut next = control;
-    next.tx = new;
-    next
+    Control {
+        tx: TxControl {
+            txb0: aborted_at(control, TxBuffer::Txb0),
+            txb1: aborted_at(control, TxBuffer::Txb1),
+            txb2: aborted_at(control, TxBuffer::Txb2),
+        },
+        ..control
+    }
 }
 
 fn canctrl_held(control: Control, value: u8) -> Control
     ensures { result ≡ canctrl_held control value }
 {
-    let state = control.state;
-    let mode = state.mode;
-    let request = registers::request_in(mode, value / 32);
-    let mut next = control;
-    next.flags.canctrl = value;
-    registers::with_request(next, request)
+    let held = Control {
+        flags: Flags {
+            canctrl: value,
+            ..control.flags
+        },
+        ..control
+    };
+    registers::with_request(held, registers::request_in(control.state.mode, value / 32))
 }
 
+#[tactic(auto, unfolding(crate::specs::Store::canctrl_stored))]
 pub fn canctrl_stored(control: Control, value: u8) -> Control
     ensures { result ≡ canctrl_stored control value }
 {

@@ -1,7 +1,8 @@
 // A store of one byte, with the rules of its address; BIT MODIFY and RTS.
 #![tactic(auto)]
 
-mod bytes;
+pub mod bytes;
 mod control;
+mod slices;
 
-pub use bytes::{modify, request_one, request_to_send, store};
+pub use slices::{modify, request_one, request_to_send, store};

@@ -1,57 +1,46 @@
-use mathlib.Core.Path.{◌≡◌, refl, ap, sym, ◌∙◌}
-use Prim.Native.Nat.{ℕ}
+use mathlib.Core.Path.{◌≡◌, refl, sym, ◌∙◌}
 use native.Mathlib.Omega.{arith}
-use borrow.Author.Tests.{lt-ltb}
 use lib.ListN.{length}
 use mir.Syntax.{w64}
-use mir.Facts.{to_z_pos, to_z-of_z}
-use Rattle.image.proofs.Laws.{chip_size}
+use mir.Facts.{to_z_pos}
+use Rattle.records.proofs.Refusals.{number_some}
 use Rattle.mcp2515.specs.ChipImage.{chip_of}
 use Rattle.bus_log.specs.Log.{records_in}
 use Rattle.bus_log.specs.Run.{run_refusal}
-use Rattle.bus_log.specs.Held.{held_refusal}
-use Rattle.bus_log.specs.From.{from_refusal, from_result, from_answers}
+use Rattle.bus_log.specs.From.{from_result, from_answers}
 use Rattle.bus_log.proofs.Answers.{answers_first}
-use Rattle.bus_log.proofs.Helds.{held_both, held_moved, held_kept}
-use Rattle.bus_log.proofs.Parts.{from_power_on, runs_join, record_by_record}
-use Rattle.bus_log.proofs.Refusals.{accepted}
+use Rattle.bus_log.proofs.Helds.{no_chip, held_chip, held_none, held_moved}
+use Rattle.bus_log.proofs.Parts.{from_power_on, runs_join, record_by_record, refused_from}
+use Rattle.bus_log.proofs.Refusals.{accepted, minus_told}
 use Rattle.bus_log.proofs.run_from.Goals as goal
 
-pub returns-then-refusal-gt0 : goal.returns-then-refusal-gt0
-unfolding from_result from_answers
-returns-then-refusal-gt0 c =
-    let same : c.held_refusal-refusal.result ≡ from_refusal c.args.wanted c.args.chip.now c.args.log.now c.args.answers.now =
-    c.held_refusal-refusal.ensures ∙ ap (λ (x : ℕ). held_refusal c.args.chip.now x) c.run_refusal.ensures in
-    let t = lt-ltb 0 c.held_refusal-refusal.result c.if-refusal-gt0.true in
-    record {
-      result = to_z-of_z {w = w64} (record { sfits = c.minus.type_inv }) ∙ c.minus.ensures ∙ rw (← same, t);
-      buffer = rw (← same, t);
-      chip = held_kept (λ z. let none : c.held_refusal-refusal.result ≡ 0 = same ∙ z in omega arith);
-      kept = λ _. refl;
-      power_on = from_power_on;
-      join = runs_join;
-      singly = record_by_record;
-    }
+pub returns-in_default : goal.returns-in_default
+returns-in_default c =
+    refused_from c.args.wanted c.args.chip.now c.args.log.now c.args.answers.now 21 _ (no_chip c.args.chip.now _ c.in_default.ensures.is.1) (omega arith)
+    (minus_told (record { sfits = c.minus.type_inv }) c.minus.ensures c.number.ensures)
+
+pub returns-in-Err : goal.returns-in-Err
+returns-in-Err c =
+    rw c.in-Some.ensures.value
+    (refused_from c.args.wanted c.args.chip.now c.args.log.now c.args.answers.now _ _
+    (held_chip c.args.chip.now _ (c.in-Some.ensures.is.0 refl) ∙ sym c.in-Err.ensures) (omega (arith, number_some c.in-Err.refusal))
+    (minus_told (record { sfits = c.minus-in-Err.type_inv }) c.minus-in-Err.ensures c.number-in-Err.ensures))
 
 pub run_records-requires : goal.run_records-requires
-run_records-requires c =
-    let none : from_refusal c.args.wanted c.args.chip.now c.args.log.now c.args.answers.now ≡ 0 =
-    sym (c.held_refusal-refusal.ensures ∙ ap (λ (x : ℕ). held_refusal c.args.chip.now x) c.run_refusal.ensures) ∙ omega arith in
-    let both = held_both c.args.chip.now (run_refusal c.args.wanted (length c.args.log.now) (length c.args.answers.now)) none in
-    (chip_size c.args.chip.now both.0, omega arith, (accepted _ _ _ both.1).room)
+run_records-requires c = (accepted _ _ _ (sym c.in_default-run_refusal.ensures)).room
 
 pub returns : goal.returns
 unfolding from_result from_answers
 returns c =
-    let none : from_refusal c.args.wanted c.args.chip.now c.args.log.now c.args.answers.now ≡ 0 =
-    sym (c.held_refusal-refusal.ensures ∙ ap (λ (x : ℕ). held_refusal c.args.chip.now x) c.run_refusal.ensures) ∙ omega arith in
-    let both = held_both c.args.chip.now (run_refusal c.args.wanted (length c.args.log.now) (length c.args.answers.now)) none in
-    let ran = c.run_records.ensures in
+    let none : run_refusal c.args.wanted (length c.args.log.now) (length c.args.answers.now) ≡ 0 = sym c.in_default-run_refusal.ensures in
+    let is = c.in-Some.ensures.is.0 refl in
+    let held = held_none c.args.chip.now _ is none in
+    let ran = rw c.in-Some.ensures.value at c.run_records.ensures in
     let n = records_in (length c.args.log.now) in
     record {
-      result = rw none (to_z_pos w64 (omega arith));
-      buffer = rw none (ran.answers_after ∙ answers_first c.args.wanted n (chip_of c.args.chip.now) c.args.log.now c.args.answers.now (accepted _ _ _ both.1).room);
-      chip = held_moved both.0 none ran.moved;
+      result = rw held (to_z_pos w64 (omega arith));
+      buffer = rw held (ran.answers_after ∙ answers_first c.args.wanted n (chip_of c.args.chip.now) c.args.log.now c.args.answers.now (accepted _ _ _ none).room);
+      chip = held_moved is held ran.moved;
       kept = ran.refused_stay;
       power_on = from_power_on;
       join = runs_join;

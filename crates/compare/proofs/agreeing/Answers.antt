@@ -1,34 +1,43 @@
-use mathlib.Core.Path.{◌≡◌, refl, sym, ◌∙◌}
-use Prim.Native.Nat.{ℕ, ◌+◌, ◌-◌}
+use mathlib.Core.Path.{◌≡◌, ◌∙◌}
+use mathlib.Core.Bool.{Bool}
+use mathlib.Core.List.{List}
+use Prim.Native.Nat.{ℕ, ◌/◌, min}
 use native.Mathlib.Omega.{arith}
-use lib.ListN.{drop}
+use borrow.Author.Rules.{rules}
+use borrow.Author.Tests.{tests}
+use lib.ListN.{length}
+use Rattle.std.specs.List.{zip}
+use Rattle.std.specs.Str.{bytes_eq}
+use Rattle.std.specs.Simd.{first_chunks}
+use Rattle.std.proofs.lemmas.List.Folds.{length-prefix_len}
+use Rattle.std.proofs.lemmas.Iterator.{YieldsList-from_slice, YieldsList-from_zip}
+use Rattle.std.proofs.lemmas.Iterator.Consumers.{YieldsList-at, count_from_yields_List}
+use Rattle.std.proofs.lemmas.Iterator.Search.{YieldsList-from_take_while}
+use Rattle.bus_log.specs.Log.{record_size}
+use Rattle.compare.specs.Compare.{records_in_both}
 use Rattle.compare.specs.Block.{agreeing_of}
-use Rattle.compare.proofs.Blocks.{agree_step, agree_stop}
+use Rattle.compare.proofs.Blocks.{agree_prefix, agree_most}
 use Rattle.compare.proofs.agreeing.Goals as goal
 
-pub loop-agreed-init : goal.loop-agreed-init
-loop-agreed-init c =
-    let all : c.args.count - 0 ≡ c.args.count = omega arith in
-    let same : (n : ℕ) → 0 + n ≡ n = λ n. omega arith in
-    (refl, omega arith, rw (all, same _))
+abbrev same : List ℕ × List ℕ → Bool
+same p = bytes_eq p.0 p.1
 
-pub same_record-requires : goal.same_record-requires
-same_record-requires c = (omega arith, omega arith)
+abbrev records_of : List ℕ → List (List ℕ)
+records_of log = first_chunks record_size (length log / record_size) log
 
-pub loop-agreed-preserved : goal.loop-agreed-preserved
-loop-agreed-preserved c =
-    let step = agree_step (c.args.count - c.loop-agreed.agreed) c.loop-agreed.at c.args.first.now c.args.second.now (omega arith) (sym c.same_record.ensures ∙ c.if-not-same_record.false) in
-    let less : c.args.count - c.loop-agreed.agreed - 1 ≡ c.args.count - (c.loop-agreed.agreed + 1) = omega arith in
-    (omega arith, omega arith, omega (arith, c.loop-agreed.invariant.2, rw less at step))
-
-pub returns-after-loop-agreed : goal.returns-after-loop-agreed
-unfolding agreeing_of
-returns-after-loop-agreed c =
-    let none : c.args.count - c.loop-agreed.agreed ≡ 0 = omega arith in
-    let last : c.loop-agreed.agreed + agreeing_of 0 (drop c.loop-agreed.at c.args.first.now) (drop c.loop-agreed.at c.args.second.now) ≡ agreeing_of c.args.count c.args.first.now c.args.second.now = rw none at c.loop-agreed.invariant.2 in
-    omega (arith, last)
-
-pub returns-then-not-same_record : goal.returns-then-not-same_record
-returns-then-not-same_record c =
-    let stop = agree_stop (c.args.count - c.loop-agreed.agreed) c.loop-agreed.at c.args.first.now c.args.second.now (omega arith) (sym c.same_record.ensures ∙ c.if-not-same_record.true) in
-    omega (arith, c.loop-agreed.invariant.2, stop)
+pub returns : goal.returns
+returns c =
+    let a = c.args.first.now in
+    let b = c.args.second.now in
+    let both : min (length a / record_size) (length b / record_size) ≡ records_in_both a b = omega arith in
+    let told : c.count.result ≡ agreeing_of (records_in_both a b) a b =
+    count_from_yields_List c.take_while.result _ c.count.ensures.ran
+    (YieldsList-from_take_while _ same
+    (YieldsList-at c.take_while.ensures.source
+    (YieldsList-from_zip (YieldsList-at c.zip.ensures.first (YieldsList-from_slice (records_of a) (c.iter.ensures.rest ∙ c.as_chunks.ensures.front)))
+    (YieldsList-from_slice (records_of b) (cc))))
+    c.take_while.ensures.closure c.take_while.ensures.done (λ x t q k. search (rules, tests)))
+    ∙ length-prefix_len same (zip (records_of a) (records_of b))
+    ∙ agree_prefix (length a / record_size) (length b / record_size) a b
+    ∙ rw both in
+    record { told = told; most = omega (arith, told, agree_most (records_in_both a b) a b) }

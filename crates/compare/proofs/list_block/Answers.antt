@@ -1,60 +1,69 @@
-use mathlib.Core.Path.{◌≡◌, refl, ◌∙◌}
-use mathlib.Core.Bool.{cond, not, ◌&&◌}
-use Prim.Native.Nat.{◌+◌}
+use mathlib.Core.Path.{◌≡◌, sym, ◌∙◌}
+use mathlib.Core.Bool.{false, ◌&&◌}
+use mathlib.Core.List.{[], ◌∷◌}
+use Prim.Native.Nat.{◌+◌, ◌-◌, ◌/◌}
 use native.Mathlib.Omega.{arith}
-use borrow.Author.Tests.{ltb-true}
-use lib.Dec.{eqb, ltb}
-use lib.ListN.{length}
-use lib.Seq.{sets}
-use Rattle.compare.specs.Compare.{Difference, entry_of, entries_of, entry_room}
-use Rattle.compare.specs.Block.{told_in, differences_in}
-use Rattle.compare.proofs.Tests.{and_both}
-use Rattle.compare.proofs.Blocks.{at_most_one, item_listed, some_left, step_counted, parts_stored, record_parts}
+use borrow.Author.Rules.{rules}
+use lib.ListN.{length, get_or}
+use Rattle.std.specs.Str.{bytes_eq}
+use Rattle.bus_log.specs.Log.{records_in}
+use Rattle.compare.specs.Compare.{Difference, entries_of}
+use Rattle.compare.specs.Block.{told_by, differences_in, Listing}
+use Rattle.compare.proofs.Blocks.{one_listed, one_counted, parts_stored, parts_sizes, none_here, one_here}
 use Rattle.compare.proofs.list_block.Goals as goal
+use Rattle.compare.proofs.list_block.Goals.{else-eq-via-then-eq+else-eq-2, else-eq-via-else-eq, then-storing, else-storing}
 
-pub loop-left-init : goal.loop-left-init
-loop-left-init c =
-    (refl, refl, refl, omega arith, omega arith, c.requires.record_size_in_bounds.4, refl, refl, refl)
+pub loop-i-preserved-then-eq-2 : goal.loop-i-preserved-then-eq-2
+loop-i-preserved-then-eq-2 c =
+    let size = c.as_chunks.ensures.front_len in
+    let same =
+    none_here (records_in (length c.args.block.first.now)) (records_in (length c.args.block.second.now)) (length c.args.told.now / 3) (length c.args.other.now / 3) c.args.block.before c.loop-i.i
+    c.args.block.first.now c.args.told.now c.args.block.second.now c.args.other.now c.as_chunks.result.0.now c.as_chunks-2.result.0.now c.as_chunks-3.result.0.now c.as_chunks-4.result.0.now
+    (omega arith) (omega (arith, c.args.block.alike)) (omega arith) (omega arith) (omega arith) (omega arith) c.as_chunks.ensures.front c.as_chunks-2.ensures.front c.as_chunks-3.ensures.front c.as_chunks-4.ensures.front (sym c.if-eq.ensures) (sym c.if-eq-2.ensures) in
+    record { few = omega (arith, c.loop-i.invariant.few); counted = rw same at c.loop-i.invariant.counted; stored = rw same at c.loop-i.invariant.stored }
 
-pub same_record-requires : goal.same_record-requires
-same_record-requires c =
-    (omega arith, omega arith)
+pub put_entry-requires : goal.put_entry-requires
+put_entry-requires c =
+    let size = c.as_chunks.ensures.front_len in
+    let unlike : (bytes_eq (get_or c.as_chunks.result.0.now c.loop-i.i []) (get_or c.as_chunks-2.result.0.now c.loop-i.i []) && bytes_eq (get_or c.as_chunks-3.result.0.now c.loop-i.i []) (get_or c.as_chunks-4.result.0.now c.loop-i.i [])) ≡ false =
+    elim c.else-eq.branch [
+      | else-eq-via-then-eq+else-eq-2 w ↦ rw (← w.if-eq.ensures, ← w.if-eq-2.ensures)
+      | else-eq-via-else-eq w ↦ rw (← w.if-eq.ensures)
+    ] in
+    let parts =
+    one_here (records_in (length c.args.block.first.now)) (records_in (length c.args.block.second.now)) (length c.args.told.now / 3) (length c.args.other.now / 3) c.args.block.before c.loop-i.i
+    c.args.block.first.now c.args.told.now c.args.block.second.now c.args.other.now c.as_chunks.result.0.now c.as_chunks-2.result.0.now c.as_chunks-3.result.0.now c.as_chunks-4.result.0.now
+    (omega arith) (omega (arith, c.args.block.alike)) (omega arith) (omega arith) (omega arith) (omega arith) c.as_chunks.ensures.front c.as_chunks-2.ensures.front c.as_chunks-3.ensures.front c.as_chunks-4.ensures.front unlike in
+    let room = c.requires.has_room (λ z. search rules) in
+    omega (arith, room, parts_sizes parts, c.loop-i.invariant.counted)
 
-pub put_entry_if-requires : goal.put_entry_if-requires
-put_entry_if-requires c e =
-    let both = and_both _ _ e in
-    let parts = record_parts c.loop-left.left c.loop-left.done c.loop-left.at c.loop-left.out c.args.first.now c.args.told.now c.args.second.now c.args.other.now c.same_record.result c.told_at-one.result c.told_at-two.result (omega arith) c.told_at-one.ensures.1 c.told_at-two.ensures.1 c.same_record.ensures c.told_at-one.ensures.0 c.told_at-two.ensures.0 in
-    let some = some_left (not (c.same_record.result && eqb c.told_at-one.result c.told_at-two.result)) _ _ _ parts both.1 in
-    let room = c.requires.has_room (λ z. absurd (omega (arith, ltb-true 0 (length c.args.entries.now) both.0))) in
-    omega arith
-
-pub overflow_add-listed : goal.overflow_add-listed
-overflow_add-listed c =
-    let test = not (c.same_record.result && eqb c.told_at-one.result c.told_at-two.result) in
-    omega (arith, at_most_one test)
-
-pub loop-left-preserved : goal.loop-left-preserved
-loop-left-preserved c =
-    let test = not (c.same_record.result && eqb c.told_at-one.result c.told_at-two.result) in
-    let item : Difference = record { number = c.loop-left.done + 1; first = told_in c.told_at-one.result; second = told_in c.told_at-two.result } in
-    let parts = record_parts c.loop-left.left c.loop-left.done c.loop-left.at c.loop-left.out c.args.first.now c.args.told.now c.args.second.now c.args.other.now c.same_record.result c.told_at-one.result c.told_at-two.result (omega arith) c.told_at-one.ensures.1 c.told_at-two.ensures.1 c.same_record.ensures c.told_at-one.ensures.0 c.told_at-two.ensures.0 in
-    let stored : c.put_entry_if.new.entries ≡ cond (ltb 0 (length c.loop-left.entries) && test) (sets c.loop-left.entries (entry_room c.loop-left.listed) (entry_of item)) c.loop-left.entries = rw c.loop-left.invariant.6 c.put_entry_if.ensures in (
-      c.loop-left.invariant.0,
-      omega arith,
-      omega arith,
-      omega arith,
-      omega arith,
-      omega (arith, at_most_one test),
-      c.entries-1.given ∙ c.loop-left.invariant.6,
-      step_counted test item _ _ c.loop-left.listed parts ∙ c.loop-left.invariant.7,
-      parts_stored parts (item_listed test item c.loop-left.listed c.loop-left.entries c.put_entry_if.new.entries stored) ∙ c.loop-left.invariant.8,
-    )
-
-pub shape_of-entries : goal.shape_of-entries
-shape_of-entries c = c.loop-left.invariant.6
+pub loop-i-preserved : goal.loop-i-preserved
+loop-i-preserved c =
+    let size = c.as_chunks.ensures.front_len in
+    let unlike : (bytes_eq (get_or c.as_chunks.result.0.now c.loop-i.i []) (get_or c.as_chunks-2.result.0.now c.loop-i.i []) && bytes_eq (get_or c.as_chunks-3.result.0.now c.loop-i.i []) (get_or c.as_chunks-4.result.0.now c.loop-i.i [])) ≡ false =
+    elim c.else-eq.branch [
+      | else-eq-via-then-eq+else-eq-2 w ↦ rw (← w.if-eq.ensures, ← w.if-eq-2.ensures)
+      | else-eq-via-else-eq w ↦ rw (← w.if-eq.ensures)
+    ] in
+    let parts =
+    one_here (records_in (length c.args.block.first.now)) (records_in (length c.args.block.second.now)) (length c.args.told.now / 3) (length c.args.other.now / 3) c.args.block.before c.loop-i.i
+    c.args.block.first.now c.args.told.now c.args.block.second.now c.args.other.now c.as_chunks.result.0.now c.as_chunks-2.result.0.now c.as_chunks-3.result.0.now c.as_chunks-4.result.0.now
+    (omega arith) (omega (arith, c.args.block.alike)) (omega arith) (omega arith) (omega arith) (omega arith) c.as_chunks.ensures.front c.as_chunks-2.ensures.front c.as_chunks-3.ensures.front c.as_chunks-4.ensures.front unlike in
+    let item : Difference = record { number = c.args.block.before + c.loop-i.i + 1; first = told_by (get_or c.as_chunks-3.result.0.now c.loop-i.i []); second = told_by (get_or c.as_chunks-4.result.0.now c.loop-i.i []) } in
+    let listed : Listing (item ∷ []) c.loop-i.listed c.loop-i.entries c.if-storing.entries (c.loop-i.listed + 1) =
+    elim c.if-storing.branch [
+      | then-storing w ↦ one_listed item c.loop-i.listed c.loop-i.entries c.if-storing.entries (w.entries-is ∙ w.put_entry.ensures)
+      | else-storing w ↦ one_counted item c.loop-i.listed c.loop-i.entries c.if-storing.entries (search rules) w.entries-is
+    ] in
+    record {
+      few = omega (arith, c.loop-i.invariant.few);
+      counted = omega (arith, parts_sizes parts, c.loop-i.invariant.counted);
+      stored = parts_stored parts listed ∙ c.loop-i.invariant.stored;
+    }
 
 pub returns : goal.returns
 unfolding differences_in entries_of
 returns c =
-    let none : c.loop-left.left ≡ 0 = omega arith in
-    record { counted = omega (arith, rw none at c.loop-left.invariant.7); stored = rw none at c.loop-left.invariant.8 }
+    let size = c.as_chunks.ensures.front_len in
+    let none : records_in (length c.args.block.first.now) - c.loop-i.i ≡ 0 = omega arith in
+    record { counted = omega (arith, rw none at c.loop-i.invariant.counted); stored = rw none at c.loop-i.invariant.stored }

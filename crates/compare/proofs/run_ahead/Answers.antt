@@ -1,29 +1,28 @@
-use mathlib.Core.Path.{◌≡◌, refl, ap, sym, ◌∙◌}
+use mathlib.Core.Path.{ap, sym, ◌∙◌}
+use mathlib.Core.List.{List}
 use Prim.Native.Nat.{ℕ}
 use native.Mathlib.Omega.{arith}
+use lib.ListN.{length, length-append}
 use Rattle.mcp2515.specs.ChipImage.{chip_of}
-use Rattle.bus_log.specs.Log.{steps_of, last_chip}
-use Rattle.compare.proofs.Runs.{chip_parts}
+use Rattle.bus_log.specs.From.{chip_from}
+use Rattle.compare.proofs.Runs.{chip_joined, chip_none}
 use Rattle.compare.proofs.run_ahead.Goals as goal
 
-pub loop-left-init : goal.loop-left-init
-unfolding last_chip steps_of
-loop-left-init c =
-    (c.requires.0, refl, refl, omega arith, refl)
-
-pub run_block-requires : goal.run_block-requires
-run_block-requires c =
-    let n = c.least-n.ensures in
-    (c.loop-left.invariant.0, omega arith, omega arith, omega arith)
-
-pub loop-left-preserved : goal.loop-left-preserved
-loop-left-preserved c =
-    (c.run_block.ensures.ahead.again, c.image-1.given ∙ c.loop-left.invariant.1, c.told-in-loop-left-1.given, omega arith, c.run_block.ensures.ahead.chip ∙ rw c.loop-left.invariant.4 (sym (chip_parts c.loop-left.done c.least-n.result (chip_of c.args.image.now) c.args.log.now)))
-
-pub shape_of-image : goal.shape_of-image
-shape_of-image c = c.loop-left.invariant.1
+pub loop-block-preserved : goal.loop-block-preserved
+loop-block-preserved c =
+    let w = c.loop-block.invariant in
+    let size = c.in-Some.ensures.steps.1.1 in
+    let parts = c.in-Some.ensures.steps.1.0 in
+    let sizes = simp length-append at (ap length parts) in
+    let left = chip_joined (chip_of c.loop-block.image) c.in-Some.block.now c.next.new.self.rest.now (omega arith) in
+    record {
+      chip = c.run_block.ensures.ahead.again;
+      size = c.in-Some.ensures.steps.0 ∙ w.size;
+      whole = omega arith;
+      left = rw c.run_block.ensures.ahead.chip (sym left ∙ ap (λ (log : List ℕ). chip_from (chip_of c.loop-block.image) log) (sym parts) ∙ w.left);
+    }
 
 pub returns : goal.returns
 returns c =
-    let all : c.loop-left.done ≡ c.args.count = omega arith in
-    record { again = c.loop-left.invariant.0; chip = c.loop-left.invariant.4 ∙ ap (λ (k : ℕ). last_chip (chip_of c.args.image.now) (steps_of k (chip_of c.args.image.now) c.args.log.now)) all }
+    let w = c.loop-block.invariant in
+    record { again = w.chip; chip = sym (chip_none (chip_of c.loop-block.image) c.loop-block.block-iterator.rest.now c.in-None.ensures.steps.1.0) ∙ w.left }

@@ -1,19 +1,18 @@
 use mathlib.Core.Path.{◌≡◌}
 use mathlib.Core.Bool.{true}
-use Prim.Native.Nat.{◌+◌}
+use Prim.Native.Nat.{◌%◌}
 use lib.ListN.{length}
 use Rattle.image.specs.Image.{is_chip}
 use Rattle.mcp2515.specs.ChipImage.{chip_of}
-use Rattle.bus_log.specs.Log.{steps_of, last_chip}
+use Rattle.bus_log.specs.Log.{record_size}
+use Rattle.bus_log.specs.From.{chip_from}
 use Rattle.compare.proofs.run_ahead.Given as goal
 
-abbrev pub invariant-loop-left : goal.invariant-loop-left
-invariant-loop-left l =
-    (is_chip l.image ≡ true)
-    × (length l.image ≡ length l.initial.image)
-    × (length l.told ≡ 1024)
-    × (l.done + l.left ≡ l.count)
-    × (chip_of l.image ≡ last_chip (chip_of l.initial.image) (steps_of l.done (chip_of l.initial.image) l.log))
-
-abbrev pub decreases-loop-left : goal.decreases-loop-left
-decreases-loop-left l = l.left
+abbrev pub invariant-loop-block : goal.invariant-loop-block
+invariant-loop-block l =
+    record {
+      chip : is_chip l.image ≡ true;
+      size : l.block-iterator.size ≡ 8192;
+      whole : length l.block-iterator.rest.now % record_size ≡ 0;
+      left : chip_from (chip_of l.image) l.block-iterator.rest.now ≡ chip_from (chip_of l.initial.image) l.log;
+    }

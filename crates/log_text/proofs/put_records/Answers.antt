@@ -1,57 +1,60 @@
 use mathlib.Core.Path.{◌≡◌, refl, ap, sym, ◌∙◌}
-use Prim.Native.Nat.{◌+◌, ◌-◌}
+use mathlib.Core.List.{[]}
+use Prim.Native.Nat.{◌-◌, ◌*◌, ◌<◌}
 use native.Mathlib.Omega.{arith}
-use lib.ListN.{length, drop, length-drop}
-use lib.Seq.{length-take-le}
-use Rattle.records.specs.declared.Outcome.{Outcome}
-use Rattle.mcp2515.specs.declared.Chip.{Chip}
-use Rattle.mcp2515.specs.declared.Stepped.{Stepped}
+use lib.ListN.{length, get_or, take, drop}
+use lib.Seq.{get_or-take, length-take-le}
 use Rattle.mcp2515.specs.Step.{step_of}
 use Rattle.mcp2515.specs.ChipImage.{chip_of}
-use Rattle.bus_log.specs.Log.{record_size, record_at, steps_of, last_chip}
+use Rattle.bus_log.specs.Log.{record_size, last_chip}
+use Rattle.bus_log.proofs.Advance.{same_size}
+use Rattle.bus_log.proofs.Steps.{chunk_at, none_left}
 use Rattle.log_text.specs.Line.{lines_of}
 use Rattle.log_text.proofs.Stores.{then_stored, none_stored}
-use Rattle.log_text.proofs.Lines.{next_line, next_chip, next_refused}
+use Rattle.log_text.proofs.Lines.{next_line, later_chip, next_refused}
 use Rattle.log_text.proofs.put_records.Goals as goal
 
-pub loop-left-init : goal.loop-left-init
-loop-left-init c = (refl, omega arith, omega arith, refl, c.requires.0, (λ after end s. s), refl, refl, λ h. (refl, h))
+pub loop-record-init : goal.loop-record-init
+loop-record-init c =
+    let all : c.args.count - 0 ≡ c.args.count = omega arith in
+    (omega arith, omega arith, rw all (λ after end s. s), rw all refl, refl, λ h. (refl, rw all h))
 
-pub loop-left-preserved : goal.loop-left-preserved
-loop-left-preserved c =
-    let r = record_at c.args.part.now c.loop-left.at in
-    let whole : c.loop-left.at + record_size - c.loop-left.at ≡ record_size = omega arith in
-    let size : length r ≡ record_size = length-take-le record_size (drop c.loop-left.at c.args.part.now) (rw length-drop (omega arith)) in
-    let ran = rw whole at c.run_record-told.ensures in
-    let moved = ran.moved c.loop-left.invariant.4 size in
-    let s : Stepped = record { chip = chip_of c.run_record-told.new.image; refusal = c.run_record-told.result.refusal; answer = c.run_record-told.result.answer; matched = c.run_record-told.result.matched } in
-    let stepped : s ≡ step_of (chip_of c.loop-left.image) r =
-    ap (λ (k : Chip). record { chip = k; refusal = c.run_record-told.result.refusal; answer = c.run_record-told.result.answer; matched = c.run_record-told.result.matched }) moved.packed.chip
-    ∙ ap (λ (y : Outcome). record { chip = (step_of (chip_of c.loop-left.image) r).chip; refusal = y.refusal; answer = y.answer; matched = y.matched }) (ran.told c.loop-left.invariant.4 size) in
-    let line = c.put_told-len.ensures in
-    let lines = next_line c.loop-left.left c.loop-left.n (chip_of c.loop-left.image) c.args.part.now c.loop-left.at s (omega arith) (omega arith) stepped in
-    let chip = next_chip c.loop-left.left c.loop-left.n (chip_of c.loop-left.image) c.args.part.now c.loop-left.at s (omega arith) (omega arith) stepped in (
+pub loop-record-preserved : goal.loop-record-preserved
+loop-record-preserved c =
+    let m = c.loop-record.image in
+    let part = c.args.part.now in
+    let count = c.args.count in
+    let i = c.loop-record.record-index in
+    let items : length (take count c.as_chunks.result.0.now) ≡ count = length-take-le count c.as_chunks.result.0.now (omega (arith, c.as_chunks.ensures.front_len)) in
+    let here : i < count = omega (arith, items) in
+    let r = take record_size (drop (record_size * i) part) in
+    let s = step_of (chip_of m) r in
+    let same : get_or (take count c.as_chunks.result.0.now) i [] ≡ r =
+    get_or-take count c.as_chunks.result.0.now i [] here ∙ rw c.as_chunks.ensures.front (chunk_at _ i part (omega (arith, c.as_chunks.ensures.front_len))) in
+    let ran = rw same at c.run_one-told.ensures in
+    let kind : get_or r 0 0 ≡ get_or (drop (record_size * i) part) 0 0 = get_or-take record_size (drop (record_size * i) part) 0 0 (omega arith) in
+    let line = rw (same, ran.told, kind) at c.put_told-len.ensures.line in
+    let lines = next_line count i c.loop-record.last (chip_of m) part here in
+    let chip = later_chip count i c.loop-record.last (chip_of m) part here in (
       omega arith,
-      omega arith,
-      omega (arith, line.most),
-      omega arith,
-      moved.packed.size,
-      (λ to end rest. c.loop-left.invariant.5 to end (rw lines (then_stored line.line rest))),
-      sym chip ∙ c.loop-left.invariant.6,
-      moved.spare ∙ c.loop-left.invariant.7,
+      omega (arith, c.put_told-len.ensures.most),
+      (λ to end rest. c.loop-record.invariant.2 to end (rw lines (then_stored line (rw ran.moved.packed.chip at rest)))),
+      rw ran.moved.packed.chip (sym chip ∙ c.loop-record.invariant.3),
+      ran.moved.spare ∙ c.loop-record.invariant.4,
       (λ h.
-          let here = c.loop-left.invariant.8 h in
-          let first = next_refused c.loop-left.left c.loop-left.n (chip_of c.loop-left.image) c.args.part.now c.loop-left.at s (omega arith) (omega arith) stepped here.1 in
-          (ran.kept first.0 ∙ here.0, first.1)),
+          let before = c.loop-record.invariant.5 h in
+          let first = next_refused count i c.loop-record.last (chip_of m) part here before.1 in
+          (ran.refused_kept (λ z. first.0 (sym (ap (λ o. o.refusal) ran.told) ∙ z)) ∙ before.0, rw ran.moved.packed.chip first.1)),
     )
 
-pub shape_of-image : goal.shape_of-image
-shape_of-image c = c.loop-left.invariant.4 ∙ sym c.requires.0
-
-pub shape_of-out : goal.shape_of-out
-shape_of-out c = c.loop-left.invariant.3
-
 pub returns : goal.returns
-unfolding steps_of lines_of last_chip
+unfolding lines_of last_chip
 returns c =
-    let none : c.loop-left.left ≡ 0 = omega arith in record { lined = record { text = c.loop-left.invariant.5 c.loop-left.out c.loop-left.len (rw none (none_stored c.loop-left.out c.loop-left.len)); most = omega arith }; moved = record { packed = record { size = c.loop-left.invariant.4; chip = rw none at c.loop-left.invariant.6 }; spare = c.loop-left.invariant.7 }; refused_stay = λ h. (c.loop-left.invariant.8 h).0 }
+    let i = c.loop-record.record-index in
+    let items : length (take c.args.count c.as_chunks.result.0.now) ≡ c.args.count = length-take-le c.args.count c.as_chunks.result.0.now (omega (arith, c.as_chunks.ensures.front_len)) in
+    let none = none_left c.args.count i (chip_of c.loop-record.image) (drop (record_size * i) c.args.part.now) (omega (arith, items)) in
+    record {
+      lined = record { text = c.loop-record.invariant.2 c.loop-record.out c.loop-record.len (rw none (none_stored c.loop-record.out c.loop-record.len)); most = omega arith };
+      moved = record { packed = record { size = same_size c.args.image.now c.loop-record.image (omega arith) c.loop-record.invariant.4; chip = rw none at c.loop-record.invariant.3 }; spare = c.loop-record.invariant.4 };
+      refused_stay = λ h. (c.loop-record.invariant.5 h).0;
+    }

@@ -1,9 +1,9 @@
 use mathlib.Core.Path.{◌≡◌}
 use mathlib.Core.Bool.{true}
 use mathlib.Core.List.{List}
-use Prim.Native.Nat.{ℕ, ◌+◌, ◌*◌, ◌≤◌}
-use lib.ListN.{length, drop}
-use Rattle.image.specs.Image.{image_size}
+use Prim.Native.Nat.{ℕ, ◌+◌, ◌-◌, ◌*◌, ◌≤◌}
+use lib.ListN.{drop}
+use Rattle.mcp2515.specs.declared.Stepped.{Stepped}
 use Rattle.mcp2515.specs.ChipImage.{chip_of}
 use Rattle.bus_log.specs.Log.{record_size, steps_of, last_chip, all_refused}
 use Rattle.log_text.specs.Line.{lines_of}
@@ -11,19 +11,19 @@ use Rattle.log_text.specs.Storing.{Stored}
 use Rattle.log_text.specs.Stretch.{line_room}
 use Rattle.log_text.proofs.put_records.Given as goal
 
-abbrev pub invariant-loop-left : goal.invariant-loop-left
-invariant-loop-left l =
-    (l.n + l.left ≡ l.number + l.count)
-    × (l.at + l.left * record_size ≤ length l.part)
-    × (l.len + l.left * line_room ≤ l.count * line_room)
-    × (length l.out ≡ length l.initial.out)
-    × (length l.image ≡ image_size)
-    × ((after : List ℕ) (end : ℕ)
-    → Stored l.out l.len (lines_of l.n (drop l.at l.part) (steps_of l.left (chip_of l.image) (drop l.at l.part))) after end
-    → Stored l.initial.out 0 (lines_of l.number l.part (steps_of l.count (chip_of l.initial.image) l.part)) after end)
-    × (last_chip (chip_of l.image) (steps_of l.left (chip_of l.image) (drop l.at l.part)) ≡ last_chip (chip_of l.initial.image) (steps_of l.count (chip_of l.initial.image) l.part))
+-- over the steps that are left
+abbrev pub invariant-loop-record : goal.invariant-loop-record
+invariant-loop-record l =
+    (l.last ≡ l.fn.number + l.record-index)
+    × (l.len + (l.fn.count - l.record-index) * line_room ≤ l.fn.count * line_room)
+    × ((after : List ℕ) (end : ℕ) → Stored l.out l.len (lines_of l.last (part l.record-index) (rest l.image)) after end
+    → Stored l.initial.out 0 (lines_of l.fn.number l.fn.part (steps_of l.fn.count (chip_of l.initial.image) l.fn.part)) after end)
+    × (last_chip (chip_of l.image) (rest l.image) ≡ last_chip (chip_of l.initial.image) (steps_of l.fn.count (chip_of l.initial.image) l.fn.part))
     × (drop 150 l.image ≡ drop 150 l.initial.image)
-    × (all_refused (steps_of l.count (chip_of l.initial.image) l.part) ≡ true → (l.image ≡ l.initial.image) × (all_refused (steps_of l.left (chip_of l.image) (drop l.at l.part)) ≡ true))
+    × (all_refused (steps_of l.fn.count (chip_of l.initial.image) l.fn.part) ≡ true → (l.image ≡ l.initial.image) × (all_refused (rest l.image) ≡ true))
+  where
+    part : ℕ → List ℕ
+    part i = drop (record_size * i) l.fn.part
 
-abbrev pub decreases-loop-left : goal.decreases-loop-left
-decreases-loop-left l = l.left
+    rest : List ℕ → List Stepped
+    rest m = steps_of (l.fn.count - l.record-index) (chip_of m) (part l.record-index)

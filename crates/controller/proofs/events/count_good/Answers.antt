@@ -8,4 +8,4 @@ use Rattle.controller.proofs.events.count_good.Goals as goal
 
 pub returns : goal.returns
 unfolding decoded
-returns c = simp c.heard_rec.ensures (marked (mark_one (unmarked c.args.image.now c.requires) 138 _ (omega arith) (omega arith)) _ (sym (falling (control_of c.args.image.now))))
+returns c = simp c.heard_rec.ensures (marked (mark_one (unmarked c.args.image.now (omega arith)) 138 _ (omega arith) (omega arith)) _ (sym (falling (control_of c.args.image.now))))

@@ -1,29 +1,33 @@
-use mathlib.Core.Path.{◌≡◌, refl, ap, sym, ◌∙◌}
-use borrow.Author.Tests.{eq-eqb, ne_eqb}
-use Rattle.records.specs.Records.{kind_of, record_of}
+use native.Mathlib.Omega.{arith}
+use mathlib.Core.Path.{refl, sym, ap, ◌∙◌}
+use Rattle.std.proofs.Common.{rules, Some}
+use Rattle.records.specs.Records.{record_of}
+use Rattle.records.specs.declared.Refusal.TheVariants.{Field}
 use Rattle.registers.specs.declared.Control.{Control}
-use Rattle.image.specs.Image.{control_of}
-use Rattle.image.proofs.Laws.{followed, acted, passed, answered, unanswered}
-use Rattle.controller.specs.Events.{event_refusal, settled_core, event_of}
-use Rattle.receiving.proofs.Stored.{unchanged}
-use Rattle.controller.proofs.Acts.{kind_field, refusal-wanted, accepted_of}
+use Rattle.controller.specs.Events.{refusal_by}
+use Rattle.controller.proofs.Acts.{refused_told, refused_stays, unknown, unsound, checked, accepted_told}
 use Rattle.controller.proofs.events.event.Goals as goal
 
-pub returns-then-image-ne-SIZE : goal.returns-then-image-ne-SIZE
-returns-then-image-ne-SIZE c = record { answered = unanswered c.if-image-ne-SIZE.true c.refused.ensures; acted = passed c.if-image-ne-SIZE.true; refused_kept = λ _. refl }
+pub returns-in_err-kind-clause-told : goal.returns-in_err-kind-clause-told
+returns-in_err-kind-clause-told c = search (rules, refused_told, unknown)
 
-pub returns-then-refusal-ne-ACCEPTED : goal.returns-then-refusal-ne-ACCEPTED
-unfolding event_of
-returns-then-refusal-ne-ACCEPTED c =
-    let e : c.refuse-refusal.result ≡ event_refusal (control_of c.args.image.now) (record_of c.args.fields) =
-    c.refuse-refusal.ensures ∙ ap (λ (x : Control). event_refusal x (record_of c.args.fields)) (c.control_of.ensures.image c.if-image-ne-SIZE.false) in
-    simp (← e, ne_eqb _ _ c.if-refusal-ne-ACCEPTED.true) record { answered = answered c.if-image-ne-SIZE.false (c.refused-then-refusal-ne-ACCEPTED.ensures ∙ refusal-wanted c.args.wanted _); acted = acted c.if-image-ne-SIZE.false (unchanged c.args.image.now c.if-image-ne-SIZE.false); refused_kept = λ _. refl }
+pub returns-in_err-kind-clause-became : goal.returns-in_err-kind-clause-became
+returns-in_err-kind-clause-became c = refused_stays c.args.image.now _ _ (omega arith) (unknown _ _ _ c.in_err-kind.ensures)
+
+pub returns-then-not-is_sound-clause-told : goal.returns-then-not-is_sound-clause-told
+returns-then-not-is_sound-clause-told c = refused_told _ _ _ Field (unsound _ _ (sym c.if-not-is_sound.ensures))
+
+pub returns-then-not-is_sound-clause-became : goal.returns-then-not-is_sound-clause-became
+returns-then-not-is_sound-clause-became c = refused_stays c.args.image.now _ Field (omega arith) (unsound _ _ (sym c.if-not-is_sound.ensures))
+
+pub returns-in_err-check-clause-told : goal.returns-in_err-check-clause-told
+returns-in_err-check-clause-told c = search (rules, refused_told, checked)
+
+pub returns-in_err-check-clause-became : goal.returns-in_err-check-clause-became
+returns-in_err-check-clause-became c = refused_stays c.args.image.now _ _ (omega arith) (checked _ _ _ _ (sym c.if-not-is_sound.ensures) c.in_ok-kind.ensures (c.in_err-check.ensures ∙ ap (λ (x : Control). refusal_by (Some c.in_ok-kind.kind) x (record_of c.args.fields)) (c.control_of.ensures)))
 
 pub returns : goal.returns
-unfolding event_of
 returns c =
-    let e : c.refuse-refusal.result ≡ event_refusal (control_of c.args.image.now) (record_of c.args.fields) =
-    c.refuse-refusal.ensures ∙ ap (λ (x : Control). event_refusal x (record_of c.args.fields)) (c.control_of.ensures.image c.if-image-ne-SIZE.false) in
-    let k : c.kind_by.result ≡ kind_of (record_of c.args.fields) = c.kind_by.ensures ∙ sym (kind_field c.args.fields) in
-    let h = c.happen-told.ensures in
-    simp (← e, eq-eqb _ _ c.if-refusal-ne-ACCEPTED.false, ← k) record { answered = answered c.if-image-ne-SIZE.false (ap accepted_of h.result_value); acted = acted c.if-image-ne-SIZE.false (followed settled_core h.became (c.settle.ensures.image h.became.size)); refused_kept = λ refused. absurd (refused refl) }
+    let h = c.happen-answer.ensures in
+    let w = accepted_told c.args.wanted c.args.fields c.in_ok-kind.kind _ c.in_ok-kind.ensures (sym c.if-not-is_sound.ensures) (c.in_ok-check.ensures ∙ ap (λ (x : Control). refusal_by (Some c.in_ok-kind.kind) x (record_of c.args.fields)) (c.control_of.ensures)) h.result_value h.became c.settle.ensures in
+    record { told = w.0; became = w.1; refused_kept = λ refused. absurd (refused refl) }

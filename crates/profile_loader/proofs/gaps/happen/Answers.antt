@@ -1,13 +1,14 @@
-use mathlib.Core.Path.{refl, sym, ap, ◌∙◌}
+use mathlib.Core.Path.{sym, ap, ◌∙◌}
 use native.Mathlib.Omega.{arith}
 use Prim.Native.Nat.{ℕ}
 use lib.ListN.{take, drop}
+use Rattle.profile_loader.specs.Gaps.{between}
 use Rattle.profile_loader.proofs.Ahead.{at_first, one_further, all_come}
 use Rattle.profile_loader.proofs.Entries.{some_left}
 use Rattle.profile_loader.proofs.gaps.happen.Goals as goal
 
 pub loop-at-init : goal.loop-at-init
-loop-at-init c = (refl, at_first _ _ _ _)
+loop-at-init c = at_first _ _ _ _
 
 pub goes_by-requires : goal.goes_by-requires
 goes_by-requires c = omega arith
@@ -30,13 +31,8 @@ loop-at-smaller c = omega arith
 
 pub loop-at-preserved : goal.loop-at-preserved
 loop-at-preserved c =
-    let by = sym c.goes_by.ensures ∙ c.loop-at-test.true in (
-      c.room-1.given ∙ c.loop-at.invariant.0,
-      one_further c.args.gap c.loop-at.gap c.pass-gap.result c.args.events.now c.args.number c.args.room.now c.loop-at.room _ c.record_at.result (some_left c.args.events.now c.args.number c.loop-at.gap.left by) (omega (arith, c.loop-at.invariant.1.fewer, c.requires.0)) by (c.record_at.ensures ∙ ap (λ (k : ℕ). take 16 (drop 4 (drop k c.args.events.now))) c.start_of-at.ensures) c.pass-gap.ensures.came c.pass-gap.ensures.left_value c.loop-at.invariant.1,
-    )
-
-pub shape_of-room : goal.shape_of-room
-shape_of-room c = c.loop-at.invariant.0
+    let by = sym c.goes_by.ensures ∙ c.loop-at-test.true in
+    one_further (between c.args.image.now c.args.gap) (between c.loop-at.image c.loop-at.gap) (between _ c.pass-gap.result) c.args.events.now c.args.number c.args.room.now c.loop-at.room _ c.record_at.result (some_left c.args.events.now c.args.number c.loop-at.gap.left by) (omega (arith, c.loop-at.invariant.fewer, c.requires.0)) by (c.record_at.ensures ∙ ap (λ (k : ℕ). take 16 (drop 4 (drop k c.args.events.now))) c.start_of-at.ensures) c.pass-gap.ensures.came c.pass-gap.ensures.left_value c.loop-at.invariant
 
 pub returns : goal.returns
-returns c = all_come _ _ _ _ _ _ (sym c.goes_by.ensures ∙ c.loop-at-test.false) c.loop-at.invariant.1
+returns c = all_come _ _ _ _ _ _ (sym c.goes_by.ensures ∙ c.loop-at-test.false) c.loop-at.invariant

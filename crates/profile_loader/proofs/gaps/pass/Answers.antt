@@ -2,7 +2,6 @@ use mathlib.Core.Path.{refl, sym, ap, ◌∙◌}
 use mathlib.Core.List.{List, append-nil}
 use Prim.Native.Nat.{ℕ}
 use lib.Seq.{sets}
-use Rattle.mcp2515.specs.declared.Stepped.{Stepped}
 use native.Mathlib.Omega.{arith}
 use Rattle.mcp2515.specs.Step.{chip_after}
 use Rattle.load_rules.specs.Load.{events_in}
@@ -16,4 +15,4 @@ returns-then-not-is_event c = simp (sym c.is_event.ensures ∙ c.if-not-is_event
 pub returns : goal.returns
 unfolding events_in chip_after log_of
 returns c =
-    simp (sym c.is_event.ensures ∙ c.if-not-is_event.false) record { came = record { chip = ap (λ (s : Stepped). s.chip) c.step-stepped.ensures; sent = refl; records = c.put_record.ensures ∙ ap (λ (l : List ℕ). sets c.args.room.now c.args.gap.sent l) (sym (append-nil c.args.«record»)) }; left_value = omega arith }
+    simp (sym c.is_event.ensures ∙ c.if-not-is_event.false) record { came = record { chip = c.run_one.ensures.moved.packed.chip; sent = refl; records = c.put_record.ensures ∙ ap (λ (l : List ℕ). sets c.args.room.now c.args.gap.sent l) (sym (append-nil c.args.«record»)) }; left_value = omega arith }

@@ -1,5 +1,7 @@
 use native.Mathlib.Omega.{arith}
 use Rattle.profile_loader.proofs.Sessions.{records_most}
+use Rattle.profile_loader.specs.Gaps.{between}
+use Rattle.profile_loader.specs.Running.{underway, replied_in}
 use Rattle.profile_loader.proofs.Turns.{advanced}
 use Rattle.profile_loader.proofs.runs.advance.Goals as goal
 
@@ -8,4 +10,4 @@ overflow_add-result c = omega (arith, c.records_in.ensures, records_most c.args.
 
 pub returns : goal.returns
 returns c =
-    advanced c.args.loading c.happen-gap.result c.perform-answered.result c.following.result c.records_in.result _ c.args.command c.args.events.now c.args.number c.args.room.now _ _ c.requires.0 c.happen-gap.ensures c.perform-answered.ensures.value c.perform-answered.ensures.room_after c.following.ensures c.records_in.ensures
+    advanced (underway c.args.image.now c.args.loading) (between _ c.happen-gap.result) (replied_in _ c.perform-reply.result) c.following.result c.records_in.result _ c.args.command c.args.events.now c.args.number c.args.room.now _ _ c.requires.0 c.happen-gap.ensures c.perform-reply.ensures.value c.perform-reply.ensures.room_after c.following.ensures c.records_in.ensures

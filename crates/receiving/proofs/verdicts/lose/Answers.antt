@@ -6,4 +6,4 @@ use Rattle.receiving.proofs.verdicts.lose.Goals as goal
 
 pub returns : goal.returns
 unfolding decoded
-returns c = simp c.set.ensures (marked (mark_one (mark_one (unmarked c.args.image.now c.requires) 131 _ (omega arith) (omega arith)) 130 _ (omega arith) (omega arith)) _ refl)
+returns c = simp (c.set.ensures, c.overflow_of.ensures) (marked (mark_one (mark_one (unmarked c.args.image.now (omega arith)) 131 _ (omega arith) (omega arith)) 130 _ (omega arith) (omega arith)) _ refl)

@@ -1,62 +1,56 @@
+use native.Mathlib.Omega.{arith}
+use mathlib.Core.Path.{◌≡◌, refl, sym, ◌∙◌}
 use Rattle.image.specs.Image.{core_of}
 use Rattle.spi.specs.Instructions.{command_by}
-use mathlib.Core.Path.{◌≡◌, refl, sym, ◌∙◌}
-use borrow.Author.Tests.{ne_eqb}
-use Rattle.spi.specs.declared.Instruction.TheVariants.{StatusReply, RxStatusReply, Done}
+use lib.ListN.{get_or}
+use Rattle.spi.specs.declared.Instruction.TheVariants.{Done}
 use Rattle.spi.specs.Open.{instruction_by, speaker_of, open_of}
+use Rattle.spi.proofs.Numbered.{staged, lowered, fetching, ended}
 use Rattle.spi.proofs.Turns.{first_reply, stayed}
 use Rattle.spi.proofs.exchanges.exchange_open.Goals as goal
 
-pub returns-in-1 : goal.returns-in-1
+pub returns-in-First : goal.returns-in-First
 unfolding instruction_by
-returns-in-1 c =
-    let x = command_by (speaker_of c.args.image.now) c.args.byte in
-    simp c.in-1.is record { value = c.start.ensures.value ∙ sym (first_reply x (core_of c.args.image.now)); turned = c.start.ensures.turned }
+returns-in-First c = rw (staged _ _ _ (sym c.from.ensures ∙ c.in-First.is)) record { value = sym (first_reply (command_by (speaker_of c.args.image.now) c.args.byte) (core_of c.args.image.now)); turned = c.start.ensures }
 
-pub returns-in-2 : goal.returns-in-2
+pub returns-in-ReadAddress : goal.returns-in-ReadAddress
 unfolding instruction_by
-returns-in-2 c = simp c.in-2.is record { value = c.turn_to.ensures.value; turned = c.turn_to.ensures.turned }
+returns-in-ReadAddress c = rw (staged _ _ _ (sym c.from.ensures ∙ c.in-ReadAddress.is)) record { value = refl; turned = c.turn_to.ensures }
 
-pub returns-in-3 : goal.returns-in-3
+pub returns-in-WriteAddress : goal.returns-in-WriteAddress
 unfolding instruction_by
-returns-in-3 c = simp c.in-3.is record { value = c.fetch.ensures.value; turned = simp c.in-3.is at c.fetch.ensures.turned }
+returns-in-WriteAddress c = rw (staged _ _ _ (sym c.from.ensures ∙ c.in-WriteAddress.is)) record { value = refl; turned = c.turn_to-in-WriteAddress.ensures }
 
-pub returns-in-4 : goal.returns-in-4
+pub returns-in-ModifyAddress : goal.returns-in-ModifyAddress
 unfolding instruction_by
-returns-in-4 c = simp c.in-4.is record { value = c.turn_to-in-4.ensures.value; turned = c.turn_to-in-4.ensures.turned }
+returns-in-ModifyAddress c = rw (staged _ _ _ (sym c.from.ensures ∙ c.in-ModifyAddress.is)) record { value = refl; turned = c.turn_to-in-ModifyAddress.ensures }
 
-pub returns-in-5 : goal.returns-in-5
+pub returns-in-ModifyMask : goal.returns-in-ModifyMask
 unfolding instruction_by
-returns-in-5 c = simp c.in-5.is record { value = c.write.ensures.value; turned = simp c.in-5.is at c.write.ensures.turned }
+returns-in-ModifyMask c = rw (staged _ _ _ (sym c.from.ensures ∙ c.in-ModifyMask.is)) record { value = refl; turned = c.keep_mask.ensures }
 
-pub returns-in-6 : goal.returns-in-6
+pub returns-in-ModifyData : goal.returns-in-ModifyData
 unfolding instruction_by
-returns-in-6 c = simp c.in-6.is record { value = c.turn_to-in-6.ensures.value; turned = c.turn_to-in-6.ensures.turned }
+returns-in-ModifyData c = rw (staged _ _ _ (sym c.from.ensures ∙ c.in-ModifyData.is)) record { value = refl; turned = c.change.ensures }
 
-pub returns-in-7 : goal.returns-in-7
+pub returns-in-Writing : goal.returns-in-Writing
 unfolding instruction_by
-returns-in-7 c = simp c.in-7.is record { value = c.keep_mask.ensures.value; turned = c.keep_mask.ensures.turned }
+returns-in-Writing c = rw (staged _ _ _ (sym c.from.ensures ∙ c.in-Writing.is)) record { value = refl; turned = rw (lowered _ _ _ _ c.requires (sym c.from.ensures ∙ c.in-Writing.is)) at c.write.ensures }
 
-pub returns-in-8 : goal.returns-in-8
+pub returns-in-StatusReply : goal.returns-in-StatusReply
 unfolding instruction_by
-returns-in-8 c = simp c.in-8.is record { value = c.change.ensures.value; turned = c.change.ensures.turned }
+returns-in-StatusReply c = rw (staged _ _ _ (sym c.from.ensures ∙ c.in-StatusReply.is)) record { value = c.status.ensures; turned = stayed c.args.image.now _ (omega arith) c.requires (staged _ _ _ (sym c.from.ensures ∙ c.in-StatusReply.is)) }
 
-pub returns-in-9 : goal.returns-in-9
+pub returns-in-RxStatusReply : goal.returns-in-RxStatusReply
 unfolding instruction_by
-returns-in-9 c = simp c.in-9.is record { value = c.fetch-in-9.ensures.value; turned = simp c.in-9.is at c.fetch-in-9.ensures.turned }
+returns-in-RxStatusReply c = rw (staged _ _ _ (sym c.from.ensures ∙ c.in-RxStatusReply.is)) record { value = c.rx_status.ensures; turned = stayed c.args.image.now _ (omega arith) c.requires (staged _ _ _ (sym c.from.ensures ∙ c.in-RxStatusReply.is)) }
 
-pub returns-in-10 : goal.returns-in-10
-unfolding instruction_by
-returns-in-10 c = simp c.in-10.is record { value = c.fetch-in-10.ensures.value; turned = simp c.in-10.is at c.fetch-in-10.ensures.turned }
+pub returns-in-Reading : goal.returns-in-Reading
+returns-in-Reading c =
+    let f = fetching (command_by (speaker_of c.args.image.now) c.args.byte) (get_or c.args.image.now 147 0) (get_or c.args.image.now 148 0) c.args.byte c.in-Reading.is in
+    rw (staged _ _ _ (sym c.from.ensures), f.0, f.1) record { value = c.fetch.ensures.value; turned = rw (lowered _ _ _ _ c.requires (sym c.from.ensures)) at c.fetch.ensures.turned }
 
-pub returns-in-11 : goal.returns-in-11
-unfolding instruction_by
-returns-in-11 c = let e : open_of c.args.image.now ≡ StatusReply = rw c.in-11.is in rw e record { value = c.status.ensures; turned = stayed c.args.image.now StatusReply c.requires.0 c.requires.1 e }
-
-pub returns-in-12 : goal.returns-in-12
-unfolding instruction_by
-returns-in-12 c = let e : open_of c.args.image.now ≡ RxStatusReply = rw c.in-12.is in rw e record { value = c.rx_status.ensures; turned = stayed c.args.image.now RxStatusReply c.requires.0 c.requires.1 e }
-
-pub returns-in_default : goal.returns-in_default
-unfolding instruction_by
-returns-in_default c = let e : open_of c.args.image.now ≡ Done = simp (ne_eqb _ _ c.in_default.in_default-own.rest.1, ne_eqb _ _ c.in_default.in_default-own.rest.0.1, ne_eqb _ _ c.in_default.in_default-own.rest.0.0.1, ne_eqb _ _ c.in_default.in_default-own.rest.0.0.0.1, ne_eqb _ _ c.in_default.in_default-own.rest.0.0.0.0.1, ne_eqb _ _ c.in_default.in_default-own.rest.0.0.0.0.0.1, ne_eqb _ _ c.in_default.in_default-own.rest.0.0.0.0.0.0.1, ne_eqb _ _ c.in_default.in_default-own.rest.0.0.0.0.0.0.0.1, ne_eqb _ _ c.in_default.in_default-own.rest.0.0.0.0.0.0.0.0.1, ne_eqb _ _ c.in_default.in_default-own.rest.0.0.0.0.0.0.0.0.0.1, ne_eqb _ _ c.in_default.in_default-own.rest.0.0.0.0.0.0.0.0.0.0.1, ne_eqb _ _ c.in_default.in_default-own.rest.0.0.0.0.0.0.0.0.0.0.0.1) in rw e record { value = refl; turned = stayed c.args.image.now Done c.requires.0 c.requires.1 e }
+pub returns-in-Raised : goal.returns-in-Raised
+returns-in-Raised c =
+    let e : open_of c.args.image.now ≡ Done = staged _ _ _ (sym c.from.ensures) ∙ ended _ _ c.in-Raised.is in
+    rw e record { value = refl; turned = stayed c.args.image.now _ (omega arith) c.requires e }

@@ -4,4 +4,4 @@ use Rattle.spi.proofs.exchanges.request.Goals as goal
 
 pub returns : goal.returns
 unfolding instruction_by
-returns c = record { value = c.turn.ensures.value; turned = then_turned (c.request_to_send.ensures.image c.requires) c.turn.ensures.turned }
+returns c = (then_turned c.request_to_send.ensures c.turn.ensures)

@@ -1,4 +1,4 @@
 use Rattle.spi.proofs.exchanges.start.Goals as goal
 
 pub returns : goal.returns
-returns c = record { value = c.begin.ensures.value; turned = rw c.command_by.ensures at c.begin.ensures.turned }
+returns c = rw (c.command_by.ensures, c.from-speaker.ensures) at c.begin.ensures

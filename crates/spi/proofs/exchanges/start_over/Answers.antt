@@ -4,4 +4,4 @@ use Rattle.spi.proofs.exchanges.start_over.Goals as goal
 
 pub returns : goal.returns
 unfolding instruction_by
-returns c = record { value = c.turn.ensures.value; turned = then_turned (c.reset.ensures.image c.requires) c.turn.ensures.turned }
+returns c = (then_turned c.reset.ensures c.turn.ensures)

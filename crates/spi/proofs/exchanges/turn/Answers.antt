@@ -1,6 +1,6 @@
-use mathlib.Core.Path.{refl}
+use native.Mathlib.Omega.{arith}
 use Rattle.spi.proofs.Turns.{lined, number_set, turned_by_lem}
 use Rattle.spi.proofs.exchanges.turn.Goals as goal
 
 pub returns : goal.returns
-returns c = record { value = refl; turned = turned_by_lem (number_set (lined c.args.image.now c.requires) c.args.number) }
+returns c = turned_by_lem (number_set (lined c.args.image.now (omega arith)) c.number.ensures)

@@ -1,6 +1,6 @@
-use mathlib.Core.Path.{refl}
+use native.Mathlib.Omega.{arith}
 use Rattle.spi.proofs.Turns.{lined, number_set, address_set, turned_by_lem}
 use Rattle.spi.proofs.exchanges.turn_to.Goals as goal
 
 pub returns : goal.returns
-returns c = record { value = refl; turned = turned_by_lem (address_set (number_set (lined c.args.image.now c.requires) c.args.number) c.args.address) }
+returns c = turned_by_lem (address_set (number_set (lined c.args.image.now (omega arith)) c.number.ensures) c.args.address)

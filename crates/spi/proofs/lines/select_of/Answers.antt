@@ -1,17 +1,12 @@
-use mathlib.Core.Path.{refl, sym, ap₂, ◌∙◌}
+use mathlib.Core.Path.{sym, ap₂, ◌∙◌}
 use Rattle.spi.specs.declared.Select.TheVariants.{Lowered}
-use Rattle.spi.proofs.Turns.{open_of_lem}
-use Rattle.image.proofs.Laws.{answered, unanswered}
+use Rattle.spi.proofs.Numbered.{lowered}
 use Rattle.spi.proofs.lines.select_of.Goals as goal
 
-pub returns-then-image-ne-SIZE : goal.returns-then-image-ne-SIZE
-returns-then-image-ne-SIZE c = unanswered c.if-image-ne-SIZE.true refl
-
-pub returns-then-image-eq-RAISED : goal.returns-then-image-eq-RAISED
-returns-then-image-eq-RAISED c = answered c.if-image-ne-SIZE.false (rw c.if-image-eq-RAISED.true)
+pub returns-then-image-number : goal.returns-then-image-number
+returns-then-image-number c = rw (c.if-image-number.true ∙ c.number.ensures)
 
 pub returns : goal.returns
 returns c =
-    answered c.if-image-ne-SIZE.false
-    (ap₂ Lowered c.speaker_by-speaker.ensures c.instruction_by.ensures
-    ∙ sym (open_of_lem c.args.image.now c.if-image-eq-RAISED.false))
+    ap₂ Lowered c.from-speaker.ensures c.instruction_by.ensures
+    ∙ sym (lowered _ _ _ _ (λ e. c.if-image-number.false (e ∙ sym c.number.ensures)) (sym c.from-stage.ensures))

@@ -3,18 +3,9 @@ use mathlib.Core.Path.{◌≡◌}
 use Prim.Native.Nat.{◌%◌}
 use Rattle.registers.specs.Registers.{region_of}
 use Rattle.image.specs.Image.{place_in, place_of}
-use Rattle.image.proofs.Places.{place_small}
 use Rattle.stores.proofs.Merged.{stored_merged}
 use Rattle.stores.proofs.bytes.merge_byte.Goals as goal
 
-pub bounds-image-place : goal.bounds-image-place
-unfolding place_of
-bounds-image-place c = let e : c.args.at % 128 ≡ c.args.at = omega arith in let p : c.place_of-place.result ≡ place_in (region_of c.args.at) c.args.at = rw e at c.place_of-place.ensures in omega (arith, p, place_small c.args.at c.requires.1)
-
-pub bounds-image-place-2 : goal.bounds-image-place-2
-unfolding place_of
-bounds-image-place-2 c = let e : c.args.at % 128 ≡ c.args.at = omega arith in let p : c.place_of-place.result ≡ place_in (region_of c.args.at) c.args.at = rw e at c.place_of-place.ensures in omega (arith, p, place_small c.args.at c.requires.1)
-
 pub returns : goal.returns
 unfolding place_of
-returns c = let e : c.args.at % 128 ≡ c.args.at = omega arith in let p : c.place_of-place.result ≡ place_in (region_of c.args.at) c.args.at = rw e at c.place_of-place.ensures in simp (c.write.ensures, c.mask_at-mask.ensures, c.takes-taken.ensures, p) (stored_merged c.args.image.now c.args.at c.args.value c.requires.0 c.requires.1 c.requires.2)
+returns c = let e : c.args.at % 128 ≡ c.args.at = omega arith in let p : c.place_of-place.result ≡ place_in (region_of c.args.at) c.args.at = rw e at c.place_of-place.ensures in simp (c.write.ensures, c.mask_at-mask.ensures, c.takes-taken.ensures, p) (stored_merged c.args.image.now c.args.at c.args.value (omega arith) c.requires.0 c.requires.1)

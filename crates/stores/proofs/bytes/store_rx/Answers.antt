@@ -6,8 +6,8 @@ use Rattle.stores.proofs.bytes.store_rx.Goals as goal
 
 pub returns-in-Rxb0 : goal.returns-in-Rxb0
 unfolding decoded
-returns-in-Rxb0 c = simp (c.in-Rxb0.is, c.rxb0_stored.ensures) (marked (mark_one (unmarked c.args.image.now c.requires) 135 _ (omega arith) (omega arith)) _ refl)
+returns-in-Rxb0 c = simp (c.in-Rxb0.is, c.rxb0_stored.ensures) (marked (mark_one (unmarked c.args.image.now (omega arith)) 135 _ (omega arith) (omega arith)) _ refl)
 
 pub returns-in-Rxb1 : goal.returns-in-Rxb1
 unfolding decoded
-returns-in-Rxb1 c = simp (c.in-Rxb1.is, c.rxb1_stored.ensures) (marked (mark_one (unmarked c.args.image.now c.requires) 136 _ (omega arith) (omega arith)) _ refl)
+returns-in-Rxb1 c = simp (c.in-Rxb1.is, c.rxb1_stored.ensures) (marked (mark_one (unmarked c.args.image.now (omega arith)) 136 _ (omega arith) (omega arith)) _ refl)

@@ -1,4 +1,0 @@
-use Rattle.controller.proofs.sending.with_flag.Goals as goal
-
-pub returns : goal.returns
-returns c = simp c.set-canintf.ensures

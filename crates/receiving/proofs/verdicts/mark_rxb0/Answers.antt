@@ -1,9 +1,0 @@
-use native.Mathlib.Omega.{arith}
-use mathlib.Core.Path.{refl}
-use Rattle.image.specs.Image.{decoded}
-use Rattle.image.proofs.Laws.{unmarked, mark_one, marked}
-use Rattle.receiving.proofs.verdicts.mark_rxb0.Goals as goal
-
-pub returns : goal.returns
-unfolding decoded
-returns c = simp (c.merge.ensures, c.hit_bits.ensures) (marked (mark_one (mark_one (unmarked c.args.image.now c.requires) 135 _ (omega arith) (omega arith)) 130 _ (omega arith) (omega arith)) _ refl)

@@ -1,9 +1,0 @@
-use mathlib.Core.Path.{ap, ◌∙◌}
-use native.Mathlib.Omega.{arith}
-use lib.IntN.{pos}
-use mir.Syntax.{w64}
-use mir.Facts.{to_z_pos}
-use Rattle.stand_in.proofs.mcp2515_part_refusal.Goals as goal
-
-pub returns : goal.returns
-returns c = to_z_pos w64 (omega arith) ∙ ap pos c.end_refusal.ensures
