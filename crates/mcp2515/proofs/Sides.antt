@@ -14,7 +14,7 @@ use Rattle.records.specs.declared.Refusal.{Refusal}
 use Rattle.records.specs.declared.Answer.{Answer}
 use Rattle.records.specs.declared.Fields.{Fields}
 use Rattle.records.specs.declared.Outcome.{Outcome}
-use Rattle.records.specs.Records.{accepted, refused_select, refused_field, refused_outcome, refusal_number, outcome_of, byte_at, kind_by, kind_of, is_event, sound_plain, sound_of, record_of}
+use Rattle.records.specs.Records.{accepted, refused_select, refused_field, refused_outcome, refusal_number, outcome_of, byte_at, kind_by, kind_of, is_event, sound_as, sound_of, record_of}
 use Rattle.records.proofs.Refusals.{refusal_told, passed, failed}
 use Rattle.registers.specs.declared.Core.{Core}
 use Rattle.image.specs.Image.{image_size, core_of, Became}
@@ -96,7 +96,7 @@ pub event_side : (c : Chip) (f : Fields) → 3 ≤ f.kind → step_of c (record_
 event_side c f h = beyond c (record_of f) f.kind (kind_in f) h
 
 -- ---- the SPI side
-plain_sound : (r : List ℕ) (g : Kind) → is_event (Some g) ≡ false → kind_of r ≡ Some g → sound_of r ≡ sound_plain g r
+plain_sound : (r : List ℕ) (g : Kind) → is_event (Some g) ≡ false → kind_of r ≡ Some g → sound_of r ≡ sound_as g r
 unfolding sound_of
 plain_sound r SelectLow n e = rw e
 plain_sound r Exchange n e = rw e
@@ -123,11 +123,11 @@ unfolding record_of
 fields_in g c f = refl
 
 module _ (c : Chip) (f : Fields) (g : Kind) (e : kind_by f.kind ≡ Some g) (spi : is_event (Some g) ≡ false) where
-  unsound : sound_plain g (record_of f) ≡ false → step_of c (record_of f) ≡ refused_step refused_field c
+  unsound : sound_as g (record_of f) ≡ false → step_of c (record_of f) ≡ refused_step refused_field c
   unfolding step_of asked turned
   unsound s = let k = kind_in f ∙ e in rw (k, spi, plain_sound (record_of f) g spi k ∙ s)
 
-  sound : sound_plain g (record_of f) ≡ true → step_of c (record_of f) ≡ step_by g c (speaker_by f.code) f.field
+  sound : sound_as g (record_of f) ≡ true → step_of c (record_of f) ≡ step_by g c (speaker_by f.code) f.field
   unfolding step_of asked turned
   sound s = let k = kind_in f ∙ e in rw (k, spi, plain_sound (record_of f) g spi k ∙ s) (fields_in g c f)
 
@@ -145,16 +145,16 @@ accepted_spi {m} r {x} e t z w = record {
 
 -- .. where refusal 2 names the record
 pub unsound_step : (c : Chip) (f : Fields) (g : Kind) (x : Refusal) → kind_by f.kind ≡ Some g → is_event (Some g) ≡ false
-    → refusal_number x ≡ cond (sound_plain g (record_of f)) accepted refused_field → step_of c (record_of f) ≡ refused_step (refusal_number x) c
+    → refusal_number x ≡ cond (sound_as g (record_of f)) accepted refused_field → step_of c (record_of f) ≡ refused_step (refusal_number x) c
 unsound_step c f g x e spi h =
-    let p = failed (sound_plain g (record_of f)) x h in
+    let p = failed (sound_as g (record_of f)) x h in
     rw p.1 (unsound c f g e spi p.0)
 
 pub passes : {t : Bool} → 0 ≡ cond t accepted refused_field → t ≡ true
 passes {t} h = passed t (λ e. omega arith) h
 
 -- ---- select low
-module _ (m : List ℕ) (f : Fields) (size : length m ≡ image_size) (e : kind_by f.kind ≡ Some SelectLow) (s : sound_plain SelectLow (record_of f) ≡ true) where
+module _ (m : List ℕ) (f : Fields) (size : length m ≡ image_size) (e : kind_by f.kind ≡ Some SelectLow) (s : sound_as SelectLow (record_of f) ≡ true) where
   pub low_accepted : {n : List ℕ} {x : Result Answer Refusal} → get_or m 146 0 ≡ 0 → outcome_of x ≡ record { refusal = 0; answer = 0; matched = 0 }
       → Turned m n (acted Rest (core_of m)) (Lowered (speaker_by f.code) First) → SpiStep m n (record_of f) x
   low_accepted z t w =
@@ -181,7 +181,7 @@ high_line : (k : Core) (s : Select) (p : Speaker) (b : ℕ) (x : Refusal) → re
 high_line k Raised p b x h = rw h
 high_line k (Lowered q i) p b x h = let o = failed (same_speaker q p) x h in rw (o.0, o.1)
 
-module _ (m : List ℕ) (f : Fields) (e : kind_by f.kind ≡ Some Exchange) (s : sound_plain Exchange (record_of f) ≡ true) where
+module _ (m : List ℕ) (f : Fields) (e : kind_by f.kind ≡ Some Exchange) (s : sound_as Exchange (record_of f) ≡ true) where
   pub exchange_refused : (x : Refusal) → refusal_number x ≡ line_refusal (select_of m) (speaker_by f.code)
       → step_of (chip_of m) (record_of f) ≡ refused_step (refusal_number x) (chip_of m)
   exchange_refused x h = sound (chip_of m) f Exchange e refl s ∙ exchange_line (core_of m) (select_of m) (speaker_by f.code) f.field x h
@@ -204,7 +204,7 @@ module _ (m : List ℕ) (f : Fields) (e : kind_by f.kind ≡ Some Exchange) (s :
         {s = record { refusal = refusal_of (act_by q i f.field); answer = reply_to (act_by q i f.field) (core_of m); matched = 0; chip = record { core = acted (act_by q i f.field) (core_of m); select = Lowered q (next_by q i f.field) } }}
         (sound (chip_of m) f Exchange e refl s ∙ rw (o.0, o.1)) (t ∙ rw z) z w
 
-module _ (m : List ℕ) (f : Fields) (e : kind_by f.kind ≡ Some SelectHigh) (s : sound_plain SelectHigh (record_of f) ≡ true) where
+module _ (m : List ℕ) (f : Fields) (e : kind_by f.kind ≡ Some SelectHigh) (s : sound_as SelectHigh (record_of f) ≡ true) where
   pub high_refused : (x : Refusal) → refusal_number x ≡ line_refusal (select_of m) (speaker_by f.code)
       → step_of (chip_of m) (record_of f) ≡ refused_step (refusal_number x) (chip_of m)
   high_refused x h = sound (chip_of m) f SelectHigh e refl s ∙ high_line (core_of m) (select_of m) (speaker_by f.code) f.field x h

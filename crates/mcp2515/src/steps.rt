@@ -6,7 +6,7 @@ ghost use Rattle.records.specs.Records.{
   refusal_in,
   outcome_of,
   kind_by,
-  sound_plain,
+  sound_as,
   record_of,
 };
 ghost use Rattle.registers.specs.Registers.{holds, reads, int_is_low};
@@ -58,9 +58,9 @@ fn accept(byte: u8) -> Result<Answer, Refusal>
 }
 
 fn check_fields(kind: Kind, fields: Fields) -> Result<(), Refusal>
-    ensures { refusal_in result ≡ cond (sound_plain kind (record_of fields)) accepted refused_field }
+    ensures { refusal_in result ≡ cond (sound_as kind (record_of fields)) accepted refused_field }
 {
-    if records::is_sound_plain(kind, fields) {
+    if records::is_sound_as(kind, fields) {
         Ok(())
     } else {
         Err(Refusal::Field)

@@ -11,7 +11,7 @@ use lib.Seq.{drop-cons}
 use lib.Dec.{eqb, ltb, leb}
 use Rattle.records.specs.declared.Kind.{Kind}
 use Rattle.records.specs.declared.Kind.TheVariants.{SelectLow, Exchange, SelectHigh, FrameHeard, BusIdle, FrameEnds, ReceiveError, Recovery, PinLevel}
-use Rattle.records.specs.Records.{data_bytes, carried, sound_plain, sound_by}
+use Rattle.records.specs.Records.{data_bytes, carried, sound_as, sound_by}
 use borrow.Author.Tests.{eq-eqb, ne_eqb, eqb-true, eqb-false, leb-true, leb-false, ltb-true, ltb-false}
 
 -- n elements of a list, the first at + k
@@ -113,7 +113,7 @@ module _ (x : ℕ) (h : x < 256 ^ 4) where
   four = omega (arith, top, div-div-eq-div-mul x 256 256, div-div-eq-div-mul x 0x10000 256)
 
 -- any kind but that of a frame has no more than two fields
-pub two_fields : (k : Kind) (r : List ℕ) → (k ≡ FrameHeard → ⊥) → sound_plain k r ≡ sound_by (Some k) r
+pub two_fields : (k : Kind) (r : List ℕ) → (k ≡ FrameHeard → ⊥) → sound_as k r ≡ sound_by (Some k) r
 two_fields SelectLow r n = refl
 two_fields Exchange r n = refl
 two_fields SelectHigh r n = refl

@@ -186,19 +186,24 @@ sound_frame r =
     && zeros_past r (carried (has_bit (byte_at r 1) 1) (byte_at r 2)) 8
 
 -- ---- a kind with two fields at most
-abbrev pub sound_plain : Kind → List ℕ → Bool
-sound_plain k r = leb (byte_at r 1) (largest_field k) && leb (byte_at r 2) (largest_second k) && zeros r 3 13
+abbrev pub sound_as : Kind → List ℕ → Bool
+sound_as k r = leb (byte_at r 1) (largest_field k) && leb (byte_at r 2) (largest_second k) && zeros r 3 13
+
+-- ---- the same where the number may be no kind: then both fields are 0 too
+abbrev pub sound_plain : Option Kind → List ℕ → Bool
+sound_plain (Some k) r = sound_as k r
+sound_plain None r = leb (byte_at r 1) 0 && leb (byte_at r 2) 0 && zeros r 3 13
 
 abbrev pub sound_by : Option Kind → List ℕ → Bool
-sound_by (Some SelectLow) r = sound_plain SelectLow r
-sound_by (Some Exchange) r = sound_plain Exchange r
-sound_by (Some SelectHigh) r = sound_plain SelectHigh r
+sound_by (Some SelectLow) r = sound_as SelectLow r
+sound_by (Some Exchange) r = sound_as Exchange r
+sound_by (Some SelectHigh) r = sound_as SelectHigh r
 sound_by (Some FrameHeard) r = sound_frame r
-sound_by (Some BusIdle) r = sound_plain BusIdle r
-sound_by (Some FrameEnds) r = sound_plain FrameEnds r
-sound_by (Some ReceiveError) r = sound_plain ReceiveError r
-sound_by (Some Recovery) r = sound_plain Recovery r
-sound_by (Some PinLevel) r = sound_plain PinLevel r
+sound_by (Some BusIdle) r = sound_as BusIdle r
+sound_by (Some FrameEnds) r = sound_as FrameEnds r
+sound_by (Some ReceiveError) r = sound_as ReceiveError r
+sound_by (Some Recovery) r = sound_as Recovery r
+sound_by (Some PinLevel) r = sound_as PinLevel r
 sound_by None r = false
 
 -- Not named by refusal 2: a known kind, fields in their ranges, every other byte 0.

@@ -17,6 +17,7 @@ ghost use Rattle.records.specs.Records.{
   sound_frame,
   largest_field,
   largest_second,
+  sound_as,
   sound_plain,
   sound_of,
   record_of,
@@ -292,12 +293,23 @@ fn tail_zero(fields: Fields) -> bool
 
 // A record of a kind that has no more than two fields.
 #[tactic(auto, unfolding(crate::specs::Records::record_of))]
-pub fn is_sound_plain(kind: Kind, fields: Fields) -> bool
-    ensures { result ≡ sound_plain kind (record_of fields) }
+pub fn is_sound_as(kind: Kind, fields: Fields) -> bool
+    ensures { result ≡ sound_as kind (record_of fields) }
 {
     (fields.field <= largest_field(kind))
         & (fields.code <= largest_second(kind))
         & tail_zero(fields)
+}
+
+// The same of a number that is no kind too: no field of it may be other than 0.
+#[tactic(auto, unfolding(crate::specs::Records::record_of))]
+pub fn is_sound_plain(kind: Option<Kind>, fields: Fields) -> bool
+    ensures { result ≡ sound_plain kind (record_of fields) }
+{
+    match kind {
+        Some(named) => is_sound_as(named, fields),
+        None => (fields.field == 0) & (fields.code == 0) & tail_zero(fields),
+    }
 }
 
 // Refusal 2 does not name the record.
@@ -308,6 +320,6 @@ pub fn is_sound(fields: Fields) -> bool
     match kind_by(fields.kind) {
         None => false,
         Some(Kind::FrameHeard) => is_sound_frame(fields),
-        Some(kind) => is_sound_plain(kind, fields),
+        Some(kind) => is_sound_as(kind, fields),
     }
 }
