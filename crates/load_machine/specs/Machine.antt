@@ -2,6 +2,7 @@
 -- no chip. Assumes nothing: these are definitions.
 use Rattle.std.specs.Prelude.{ℕ, zero, suc, ◌+◌, ◌-◌, ◌*◌, ◌/◌, Bool, true, cond, ◌&&◌, List, [], ◌∷◌, eqb, ltb, get_or, replicate, Result, Ok, Err}
 use Rattle.records.specs.declared.Refusal.{Refusal}
+use Rattle.records.specs.Records.{refusal_number}
 use Rattle.registers.specs.declared.Mode.{Mode}
 use Rattle.registers.specs.declared.Mode.TheVariants.{Configuration}
 use Rattle.registers.specs.State.{mode_number}
@@ -19,7 +20,7 @@ use Rattle.load_machine.specs.Profile.{profile_size, address_of, agrees_at, chec
 -- refused, it is at its end before it begins
 abbrev pub begin_by : Result Unit Refusal → Stage
 begin_by (Ok passed) = Asking
-begin_by (Err refusal) = Ended (Refused refusal)
+begin_by (Err refusal) = Ended (Refused (refusal_number refusal))
 
 unfoldable pub begin_of : Bool → List ℕ → Mode → Stage
 begin_of low p m = begin_by (checked_for low p m)

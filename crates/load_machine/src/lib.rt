@@ -36,8 +36,8 @@ const LAST_BYTE: u8 = 33;
 
 #[derive(Clone, Copy, Debug, PartialEq, Eq)]
 pub enum Verdict {
-    // Nothing was sent: the refusal.
-    Refused(Refusal),
+    // Nothing was sent: the refusal, by its number, since `next` and `following` answer for a stage with any number.
+    Refused(u8),
     // Configuration was not reached, and no profile byte written.
     Waiting,
     // The chip holds the profile.
@@ -194,7 +194,7 @@ pub fn begin(low: bool, profile: [u8; PROFILE_SIZE], mode: Mode) -> Stage
 {
     match check(low, profile, mode) {
         Ok(()) => Stage::Asking,
-        Err(refusal) => Stage::Ended(Verdict::Refused(refusal)),
+        Err(refusal) => Stage::Ended(Verdict::Refused(refusal.number())),
     }
 }
 

@@ -8,7 +8,7 @@ use native.Mathlib.Nat.{zero-add}
 use lib.Dec.{eqb, lit<}
 use lib.Bits.{bit_and, or_shifted}
 use lib.ListN.{get_or, length}
-use borrow.Author.Tests.{ne_eqb, eqb-true, eqb-false}
+use borrow.Author.Tests.{eqb-true, eqb-false}
 use Rattle.bits.specs.Bit.{has_bit, for_below}
 use Rattle.records.specs.Records.{refused_select}
 use Rattle.registers.specs.declared.Mode.{Mode}
@@ -29,7 +29,7 @@ use Rattle.mcp2515.proofs.Reached.{same_profile}
 use Rattle.std.specs.Prelude.{Result, Ok, Err}
 use Rattle.records.specs.declared.Refusal.{Refusal}
 use Rattle.records.specs.declared.Refusal.TheVariants.{Profile, Mode as OtherMode}
-use Rattle.records.specs.Records.{refusal_in}
+use Rattle.records.specs.Records.{refusal_number, refusal_in}
 use Rattle.records.proofs.Refusals.{number_some}
 use Rattle.load_machine.specs.declared.Verdict.{Verdict}
 use Rattle.load_machine.specs.declared.Verdict.TheVariants.{Refused, Waiting, In}
@@ -41,7 +41,7 @@ use Rattle.load_machine.specs.declared.Turn.TheVariants.{Send, Say}
 use Rattle.load_machine.specs.Profile.{profile_size, address_of, bits_of, is_writable_at, is_writable, refused_profile, refused_mode, loads_in, checked_for, refusal_for}
 use Rattle.load_machine.specs.Machine.{begin_by, begin_of, next_of, is_reached, following_of, session_of}
 use Rattle.load_rules.specs.Load.{gap_before, reply_of, Progress, turn_by, turn_of, turns, start_of, is_lowered, begun, load_of}
-use Rattle.load_rules.specs.Laws.{writes_from, reads_from, commands_of, records_of_all, CommandCounts, interleaved, reaches, refusal_of_load, RefusedLoad, RefusedLoads, register_of, Loads, AcceptedLoads}
+use Rattle.load_rules.specs.Laws.{writes_from, reads_from, commands_of, records_of_all, CommandCounts, interleaved, reaches, refusal_of_load, RefusedLoads, register_of, Loads, AcceptedLoads}
 use Rattle.load_rules.proofs.Reach.{Home, Reach, there, waiting, settle_reach, event_reach}
 use Rattle.load_rules.proofs.Sessions.{raised, ask_core, ask_chip, read_chip, read_reply}
 use Rattle.load_rules.proofs.Slots.{at_profile, same_registers}
@@ -317,15 +317,13 @@ pub refused_loads : RefusedLoads
 unfolding load_of begin_of
 refused_loads c p g h = go (checked_for (is_lowered c.select) p (start_of c)) refl
   where
-    go : (x : Result Unit Refusal) → checked_for (is_lowered c.select) p (start_of c) ≡ x → RefusedLoad c p g
+    go : (x : Result Unit Refusal) → checked_for (is_lowered c.select) p (start_of c) ≡ x
+        → load_of c p g ≡ record { stage = Ended (Refused (refusal_of_load c p)); chip = c; sent = [] }
     go (Ok passed) e = absurd (h (sym (checked_number (is_lowered c.select) p (start_of c)) ∙ ap refusal_in e))
     go (Err r) e =
-        record {
-          refusal = r;
-          number = sym (ap refusal_in e) ∙ checked_number (is_lowered c.select) p (start_of c);
-          load = ap (λ (x : Result Unit Refusal). turns p (start_of c) g 71 0 (record { stage = begin_by x; chip = c; sent = [] })) e
-              ∙ turns_ended p (start_of c) g 71 0 (Refused r) c [];
-        }
+        ap (λ (x : Result Unit Refusal). turns p (start_of c) g 71 0 (record { stage = begin_by x; chip = c; sent = [] })) e
+        ∙ turns_ended p (start_of c) g 71 0 (Refused (refusal_number r)) c []
+        ∙ ap (λ (n : ℕ). record { stage = Ended (Refused n); chip = c; sent = [] }) (sym (ap refusal_in e) ∙ checked_number (is_lowered c.select) p (start_of c))
 
 -- the chip after a load is the chip after its records
 load_replays : (c : Chip) (p : List ℕ) (g : ℕ → List (List ℕ)) → (load_of c p g).chip ≡ chip_after c (load_of c p g).sent

@@ -1,8 +1,6 @@
 -- What is true of every load. Each law is a type; proofs/Loads shows them. Assumes nothing: these are definitions.
 use Rattle.std.specs.Prelude.{ℕ, zero, suc, ◌+◌, ◌*◌, ◌%◌, ◌<◌, Bool, true, false, cond, not, ◌&&◌, List, [], ◌∷◌, ◌++◌, ◌≡◌, leb, length, get_or, None}
 use Rattle.std.specs.Int.Bits.{bit_and}
-use Rattle.records.specs.declared.Refusal.{Refusal}
-use Rattle.records.specs.Records.{refusal_number}
 use Rattle.registers.specs.declared.Mode.{Mode}
 use Rattle.registers.specs.declared.Mode.TheVariants.{Configuration}
 use Rattle.registers.specs.declared.Core.{Core}
@@ -62,13 +60,10 @@ reaches c g = is_reached (reply_of (chip_after (chip_after c (session_of (Ask Co
 abbrev pub refusal_of_load : Chip → List ℕ → ℕ
 refusal_of_load c p = refusal_for (is_lowered c.select) p (start_of c)
 
-pub record RefusedLoad (c : Chip) (p : List ℕ) (g : ℕ → List (List ℕ)) : Type 0 where
-  pub refusal : Refusal
-  pub number : refusal_number refusal ≡ refusal_of_load c p
-  pub load : load_of c p g ≡ record { stage = Ended (Refused refusal); chip = c; sent = [] }
-
 abbrev pub RefusedLoads : Type 0
-RefusedLoads = (c : Chip) (p : List ℕ) (g : ℕ → List (List ℕ)) → (refusal_of_load c p ≡ 0 → ⊥) → RefusedLoad c p g
+RefusedLoads =
+    (c : Chip) (p : List ℕ) (g : ℕ → List (List ℕ)) → (refusal_of_load c p ≡ 0 → ⊥)
+    → load_of c p g ≡ record { stage = Ended (Refused (refusal_of_load c p)); chip = c; sent = [] }
 
 -- ---- not refused
 -- what the register of profile byte i holds, in its writable bits

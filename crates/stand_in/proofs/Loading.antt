@@ -9,9 +9,6 @@ use lib.IntN.{ℤ, pos, neg_ℤ}
 use lib.ListN.{length, get_or, set, drop, length-set, drop_of_length-le}
 use lib.Seq.{sets, length-take-le, drop-cons, get_or-set_same, get_or-set_other}
 use borrow.Author.Tests.{eqb-true, eqb-false, lt-ltb, le-ltb}
-use Rattle.records.specs.declared.Refusal.{Refusal}
-use Rattle.records.specs.Records.{refusal_number}
-use Rattle.records.proofs.Refusals.{number_some}
 use Rattle.image.specs.Image.{image_size, is_chip}
 use Rattle.image.proofs.Laws.{chip_size}
 use Rattle.spi.proofs.Turns.{select_core}
@@ -83,11 +80,10 @@ said_taken : (b : Bool) → Said 0 b (cond b In Waiting)
 said_taken true = record { result = refl; refused = λ e. clash (sym e); accepted = λ _. refl }
 said_taken false = record { result = refl; refused = λ e. clash (sym e); accepted = λ _. refl }
 
-said_refused : (n : ℕ) (b : Bool) (e : Refusal) → refusal_number e ≡ n → Said n b (Refused e)
-said_refused n b e p =
-    let some : n ≡ 0 → ⊥ = λ z. number_some e (p ∙ z) in
+said_refused : (n : ℕ) (b : Bool) → (n ≡ 0 → ⊥) → Said n b (Refused n)
+said_refused n b some =
     record {
-      result = rw (p, lt-ltb 0 n (not_zero n some));
+      result = rw (lt-ltb 0 n (not_zero n some));
       refused = λ _. some;
       accepted = λ f. clash f;
     }
@@ -100,8 +96,8 @@ said c p g whole = go (eqb (refusal_of_load c p) 0) refl
         let none = eqb-true (refusal_of_load c p) 0 e in
         rw (none, (load_laws.accepted c p g whole none).verdict) (said_taken (reaches c g))
     go false e =
-        let x = load_laws.refused c p g (eqb-false (refusal_of_load c p) 0 e) in
-        rw x.load (said_refused (refusal_of_load c p) (reaches c g) x.refusal x.number)
+        let some = eqb-false (refusal_of_load c p) 0 e in
+        rw (load_laws.refused c p g some) (said_refused (refusal_of_load c p) (reaches c g) some)
 
 -- ---- both calls, over a chip m
 module _ (m p events : List ℕ) (is : is_chip m ≡ true) where

@@ -1,7 +1,6 @@
 -- The calls that load a profile into a chip that a C program holds. In each, m are the bytes of the chip that is lent, p those of the
 -- profile, events those of the bus events that come between the loader's commands. Assumes nothing: these are definitions.
 use Rattle.std.specs.Prelude.{◌≡◌, Bool, true, false, cond, List, ◌++◌, ℕ, ◌%◌, eqb, ltb, ℤ, pos, neg_ℤ, length, drop}
-use Rattle.records.specs.Records.{refusal_number}
 use Rattle.mcp2515.specs.ChipImage.{chip_of}
 use Rattle.bus_log.specs.Log.{length_refusal, first_refusal}
 use Rattle.bus_log.specs.Run.{call_result}
@@ -58,13 +57,13 @@ records_after m p events room =
 
 -- ---- what a verdict returns to C; it is never that a byte read back differs
 abbrev pub result_of : Verdict → ℤ
-result_of (Refused e) = neg_ℤ (pos (refusal_number e))
+result_of (Refused n) = neg_ℤ (pos n)
 result_of Waiting = pos 0
 result_of In = pos 1
 result_of Differs = pos 2
 
 abbrev pub is_refused : Verdict → Bool
-is_refused (Refused e) = true
+is_refused (Refused n) = true
 is_refused Waiting = false
 is_refused In = false
 is_refused Differs = false

@@ -52,7 +52,7 @@ fn result_of(verdict: Verdict) -> i64
     ensures { result ≡ result_of verdict }
 {
     match verdict {
-        Verdict::Refused(refusal) => refused(refusal),
+        Verdict::Refused(refusal) => bus_log::minus(refusal),
         Verdict::Waiting => 0,
         Verdict::In => 1,
         Verdict::Differs => 2,
