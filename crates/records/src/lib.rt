@@ -312,7 +312,8 @@ pub fn is_sound_plain(kind: Option<Kind>, fields: Fields) -> bool
     }
 }
 
-// Refusal 2 does not name the record.
+// Refusal 2 does not name the record. An arm for each kind: with one for all kinds of two fields a run jumps by the kind twice, and a log
+// of nothing but bus idle takes half as long again.
 #[tactic(auto, using(crate::proofs::Taken::two_fields), unfolding(crate::specs::Records::sound_of, crate::specs::Records::kind_of, crate::specs::Records::record_of))]
 pub fn is_sound(fields: Fields) -> bool
     ensures { result ≡ sound_of (record_of fields) }
@@ -320,6 +321,13 @@ pub fn is_sound(fields: Fields) -> bool
     match kind_by(fields.kind) {
         None => false,
         Some(Kind::FrameHeard) => is_sound_frame(fields),
-        Some(kind) => is_sound_as(kind, fields),
+        Some(Kind::SelectLow) => is_sound_as(Kind::SelectLow, fields),
+        Some(Kind::Exchange) => is_sound_as(Kind::Exchange, fields),
+        Some(Kind::SelectHigh) => is_sound_as(Kind::SelectHigh, fields),
+        Some(Kind::BusIdle) => is_sound_as(Kind::BusIdle, fields),
+        Some(Kind::FrameEnds) => is_sound_as(Kind::FrameEnds, fields),
+        Some(Kind::ReceiveError) => is_sound_as(Kind::ReceiveError, fields),
+        Some(Kind::Recovery) => is_sound_as(Kind::Recovery, fields),
+        Some(Kind::PinLevel) => is_sound_as(Kind::PinLevel, fields),
     }
 }
